@@ -6,8 +6,10 @@ import platform
 import subprocess
 import sys
 import time
+from typing import Any, Dict, Iterator, List, Optional, Sequence, Tuple
 
 import drawing
+import felt
 from commit import named
 
 HERE = os.path.dirname(os.path.abspath(__file__))
@@ -118,10 +120,15 @@ MOST_GROWTH = 1.1
 
 
 # The verdicts of all goals so far.
-VERDICTS = []
+VERDICTS: List[str] = []
+
+# What runs a workload: a program, and what is set in its environment.
+Side = Tuple[str, Dict[str, str]]
+# A line of a table: a workload, with its sizes and what each took.
+Row = Tuple[Any, ...]
 
 
-def once(program, name, size, environment):
+def once(program: str, name: str, size: int, environment: Dict[str, str]) -> Tuple[float, str]:
     """Seconds and check of one run."""
     words = [program, name, str(size)]
     done = subprocess.run(words, capture_output=True, text=True, env={**os.environ, **environment})
@@ -131,7 +138,7 @@ def once(program, name, size, environment):
     return float(seconds), check
 
 
-def allocated(program, name, size):
+def allocated(program: str, name: str, size: int) -> int:
     """The most bytes that the allocator had handed out at once in a run, by its own count (`allocated.c`)."""
     told = os.path.join(HERE, "out", "allocated.txt")
     once(program, name, size, {"LD_PRELOAD": os.path.join(HERE, "out", "allocated.so"), "ALLOCATED": told})
@@ -139,8 +146,8 @@ def allocated(program, name, size):
         return int(file.read())
 
 
-def measure_memory():
-    rows = []
+def measure_memory() -> List[Row]:
+    rows: List[Row] = []
     for name, what, length, most, (low, high) in MEMORY:
         each = [(allocated(program, name, high) - allocated(program, name, low)) / (high - low) for program in (OURS, BASELINE)]
         if name == "keep-coins":
@@ -151,7 +158,7 @@ def measure_memory():
     return rows
 
 
-def table_of_memory(rows):
+def table_of_memory(rows: List[Row]) -> str:
     text = [
         "",
         "Bytes that one more takes (the allocator's count; a block with its coin, undo and command):",
@@ -164,14 +171,14 @@ def table_of_memory(rows):
     return "\n".join(text) + "\n"
 
 
-def verdict(holds):
+def verdict(holds: bool) -> str:
     """A goal's verdict; each is counted."""
     word = "met" if holds else "missed"
     VERDICTS.append(word)
     return word
 
 
-def least(name, size, sides, limit, fewest):
+def least(name: str, size: int, sides: Sequence[Side], limit: float, fewest: int) -> List[float]:
     """The least time of each side, of runs in turn: up to fifteen rounds or so many seconds, and at least so many."""
     best = [math.inf] * len(sides)
     begin = time.monotonic()
@@ -188,7 +195,7 @@ def least(name, size, sides, limit, fewest):
     return best
 
 
-def processor():
+def processor() -> Tuple[str, int, bool]:
     with open("/proc/cpuinfo", encoding="utf-8") as file:
         lines = file.read().splitlines()
     names = [line.split(":")[1].strip() for line in lines if line.startswith("model name")]
@@ -196,9 +203,14 @@ def processor():
     return names[0], len(names), "sha_ni" in flags
 
 
-def measure(names, has_sha):
-    sides = [(OURS, {}), (BASELINE, {})] + ([(BASELINE, HIDDEN)] if has_sha else [])
-    rows = []
+def sides_of(has_sha: bool) -> List[Side]:
+    sides: List[Side] = [(OURS, {}), (BASELINE, {})]
+    return sides + [(BASELINE, HIDDEN)] * has_sha
+
+
+def measure(names: List[str], has_sha: bool) -> List[Row]:
+    sides = sides_of(has_sha)
+    rows: List[Row] = []
     for name, what, kind, sizes in WORKLOADS:
         if names and name not in names:
             continue
@@ -209,10 +221,10 @@ def measure(names, has_sha):
     return rows
 
 
-def measure_node(names, has_sha):
+def measure_node(names: List[str], has_sha: bool) -> List[Row]:
     """The same of a node: each run makes its chain first, so there are fewer."""
-    sides = [(OURS, {}), (BASELINE, {})] + ([(BASELINE, HIDDEN)] if has_sha else [])
-    rows = []
+    sides = sides_of(has_sha)
+    rows: List[Row] = []
     for name, what, sizes in NODE:
         if names and name not in names:
             continue
@@ -223,25 +235,25 @@ def measure_node(names, has_sha):
     return rows
 
 
-def goal(text, ratio, bound, is_most=True):
+def goal(text: str, ratio: float, bound: float, is_most: bool = True) -> str:
     """A line of a list, with what a ratio should be and whether it is."""
     holds = ratio <= bound if is_most else ratio >= bound
     return f"- {text}: {ratio:.2f}; at {'most' if is_most else 'least'} {bound}, {verdict(holds)}."
 
 
-def measure_machine():
+def measure_machine() -> Tuple[float, float]:
     """How much more four threads do in a second than one, where none waits for another, and the longest pause of one."""
     one, four, pause = (least(name, size, [(BASELINE, {})], 4, 3)[0] for name, size in MACHINE)
     return 4 * one / four, pause
 
 
-def goals_of_a_node(rows, machine):
+def goals_of_a_node(rows: List[Row], machine: Optional[Tuple[float, float]]) -> str:
     """What a node's times are to be beside each other, of those that were measured."""
     found = {(name, size): times[0] for name, _, _, costs in rows for size, times in costs}
     theirs = {(name, size): times[1] for name, _, _, costs in rows for size, times in costs}
-    lines = []
+    lines: List[str] = []
 
-    def ask(text, over, under, bound, is_most=True):
+    def ask(text: str, over: Tuple[str, int], under: Tuple[str, int], bound: float, is_most: bool = True) -> None:
         if over in found and under in found:
             other = theirs[over] / theirs[under]
             lines.append(goal(text, found[over] / found[under], bound, is_most)[:-1] + f" (baseline: {other:.2f}).")
@@ -268,7 +280,7 @@ def goals_of_a_node(rows, machine):
     return "\n".join(lines)
 
 
-def table_of_node(rows, has_sha, machine):
+def table_of_node(rows: List[Row], has_sha: bool, machine: Optional[Tuple[float, float]]) -> str:
     without = " | baseline without SHA instructions | ratio" if has_sha else ""
     text = [
         "",
@@ -283,8 +295,8 @@ def table_of_node(rows, has_sha, machine):
     return "\n".join(text) + "\n"
 
 
-def measure_alone(names):
-    rows = []
+def measure_alone(names: List[str]) -> List[Row]:
+    rows: List[Row] = []
     for name, what, sizes in OURS_ALONE:
         if names and name not in names:
             continue
@@ -295,14 +307,14 @@ def measure_alone(names):
     return rows
 
 
-def table_alone(rows):
+def table_alone(rows: List[Row]) -> str:
     text = ["", "Ours alone:", "", "| workload | size | what | seconds |", "|---|---:|---|---:|"]
     for name, what, costs in rows:
         text += [f"| {name} | {size:,} | {what} | {seconds:.6f} |" for size, seconds in costs]
     return "\n".join(text) + "\n"
 
 
-def growth_of_a_block(rows):
+def growth_of_a_block(rows: List[Row]) -> str:
     """What a block costs on a high chain over what it costs on a low one, where both were timed."""
     for name, _, _, costs in rows:
         if name == "blocks-above":
@@ -313,7 +325,7 @@ def growth_of_a_block(rows):
     return ""
 
 
-def head_of(commit, has_sha):
+def head_of(commit: str, has_sha: bool) -> str:
     """What was run, and where. It is written last, when all goals have been looked at."""
     name, cores, _ = processor()
     return (
@@ -325,7 +337,7 @@ def head_of(commit, has_sha):
     )
 
 
-def table(rows, has_sha):
+def table(rows: List[Row], has_sha: bool) -> str:
     without = " | baseline without SHA instructions | ratio" if has_sha else ""
     text = [
         f"| workload | size | what | ours | baseline | ratio{without} | goal at most |",
@@ -334,14 +346,14 @@ def table(rows, has_sha):
     return "\n".join([*text, *lines_of(rows), "", growth_of_a_block(rows)]) + "\n"
 
 
-def drawn(rows):
+def drawn(rows: List[Row]) -> Iterator[Row]:
     """Name, size, what it is, times and goal of each line of a table: of a workload's last size, or of each."""
     for name, what, _, costs in rows:
         for size, times in costs if name in EACH_SIZE else costs[-1:]:
             yield name, size, what, times, GOALS.get(name, 1)
 
 
-def lines_of(rows):
+def lines_of(rows: List[Row]) -> List[str]:
     text, last = [], ""
     for name, size, what, times, most in drawn(rows):
         # What a workload is stands in the first of its lines.
@@ -353,7 +365,7 @@ def lines_of(rows):
     return text
 
 
-def main():
+def main() -> None:
     names = sys.argv[1:]
     unknown = set(names) - {row[0] for row in WORKLOADS + NODE + OURS_ALONE} - {"memory"}
     if unknown:
@@ -369,11 +381,12 @@ def main():
         return
     text = table(rows, has_sha) + table_of_node(node, has_sha, machine) + table_of_memory(memory) + table_alone(alone)
     write(head_of(commit, has_sha) + text)
+    felt.put()
     drawing.draw()
     print(f"of {len(VERDICTS)} goals {VERDICTS.count('met')} are met")
 
 
-def write(text):
+def write(text: str) -> None:
     """Writes the results, and behind them what `bench/core` wrote."""
     with open(RESULTS, encoding="utf-8") as file:
         _, begin, rest = file.read().partition(KEPT[0])

@@ -15,6 +15,7 @@ import socket
 import subprocess
 import sys
 import time
+from typing import Any, List
 
 ROOT = os.path.dirname(os.path.dirname(os.path.realpath(__file__)))
 os.environ.setdefault("WAKOTEHU_LIBRARY", f"{ROOT}/ffi/out/libwakotehu.so")
@@ -28,19 +29,19 @@ from wakotehu.encoding import GENESIS, coinbase, double_sha, mine, subsidy  # no
 class Client:
     """A client that keeps its connection, and does little more than a socket: Python's own takes as long as the server."""
 
-    def __init__(self, place, word="name:password"):
+    def __init__(self, place: str, word: str = "name:password") -> None:
         host, _, port = place.rpartition(":")
         self.connection = socket.create_connection((host, int(port)))
         self.connection.setsockopt(socket.IPPROTO_TCP, socket.TCP_NODELAY, True)
         key = base64.b64encode(word.encode()).decode()
         self.head = f"POST / HTTP/1.1\r\nHost: {host}\r\nAuthorization: Basic {key}\r\nContent-Length: "
 
-    def spelled(self, method, *params):
+    def spelled(self, method: str, *params: Any) -> bytes:
         """A request as it is sent."""
         body = json.dumps({"id": 1, "method": method, "params": params})
         return f"{self.head}{len(body)}\r\n\r\n{body}".encode()
 
-    def ask(self, request):
+    def ask(self, request: bytes) -> Any:
         """The result of a request."""
         self.connection.sendall(request)
         got = b""
@@ -51,11 +52,11 @@ class Client:
             raise SystemExit(f"{reply['error']}")
         return reply["result"]
 
-    def call(self, method, *params):
+    def call(self, method: str, *params: Any) -> Any:
         return self.ask(self.spelled(method, *params))
 
 
-def chain(count):
+def chain(count: int) -> List[str]:
     """Blocks of a coinbase each, as hexadecimal digits."""
     parent, blocks = GENESIS.id, []
     for height in range(1, count + 1):
@@ -65,12 +66,12 @@ def chain(count):
     return blocks
 
 
-def told(what, got, unit, goal, met):
+def told(what: str, got: str, unit: str, goal: str, met: bool) -> bool:
     print(f"{what}: {got} {unit}, goal {goal}: {'met' if met else 'missed'}", flush=True)
     return met
 
 
-def measured(client, blocks):
+def measured(client: Client, blocks: List[str]) -> bool:
     """Whether both goals are met."""
     begun = time.perf_counter()
     for block in blocks:
@@ -91,7 +92,7 @@ def measured(client, blocks):
     return met
 
 
-def main():
+def main() -> None:
     if {"-h", "--help"} & set(sys.argv[1:]):
         print(__doc__)
         return
@@ -99,6 +100,7 @@ def main():
     names = {**os.environ, "WAKOTEHU_RPCUSER": "name", "WAKOTEHU_RPCPASSWORD": "password"}
     command = [sys.executable, "-m", "wakotehu.server", "-rpcport=0"]
     with subprocess.Popen(command, stdout=subprocess.PIPE, text=True, env=names) as server:
+        assert server.stdout
         client = Client(server.stdout.readline().strip())
         client.call("setmocktime", GENESIS.time + 10 * len(blocks))
         met = measured(client, blocks)

@@ -5,16 +5,18 @@
 
 Each line of WAY is a function: its file below crates/, and its name behind its type's.
 """
-import os
 import re
 import sys
 from typing import List, Optional
+
+sys.dont_write_bytecode = True
+from sources.rattle import bare, functions, plain
+from sources.repository import read
 
 if {"-h", "--help"} & set(sys.argv[1:]):
     print(__doc__)
     sys.exit()
 
-ROOT = os.path.dirname(os.path.dirname(os.path.realpath(__file__)))
 MOST = 12
 WAY = [
     ("node/src/writing.rt", "Seat::submit"),
@@ -31,23 +33,15 @@ WAY = [
     ("connect/src/connecting.rt", "connect_others"),
     ("connect/src/turn.rt", "connect_tx"),
 ]
-HEAD = re.compile(r"^( *)(?:pub(?:\([^)]*\))? )?(?:const )?(?:unsafe )?fn (\w+)", re.M)
-IMPL = re.compile(r"^impl\b(?:<[^{]*?>)?\s+(?:[\w:<>', ]+ for )?(\w+)", re.M)
 
 
 def body(path: str, name: str) -> Optional[str]:
     """The text between the braces of a function's body, without comments."""
-    with open(f"{ROOT}/crates/{path}", encoding="utf-8") as file:
-        text = re.sub(r"//[^\n]*", "", file.read())
-    of, _, last = name.rpartition("::")
-    for head in HEAD.finditer(text):
-        impls = [it[1] for it in IMPL.finditer(text) if it.start() < head.start()]
-        if head[2] != last or (of and (not head[1] or impls[-1] != of)) or (not of and head[1]):
-            continue
-        begin = re.compile(rf"^{head[1]}{{\n|\) (?:-> [^\n]*)?{{\n", re.M).search(text, head.end())
-        end = text.find(f"\n{head[1]}}}\n", head.end())
-        if begin and begin.end() <= end:
-            return text[begin.end() : end]
+    text = bare(read(f"crates/{path}"))
+    for it in functions(text):
+        of = f"{plain(it.block.of)}::" if it.block else ""
+        if of + it.name == name and it.body:
+            return text[it.body.start : it.body.stop]
     return None
 
 

@@ -15,7 +15,7 @@ import signal
 import subprocess
 import sys
 import time
-from typing import Dict, Iterator, List, TextIO
+from typing import IO, Dict, Iterator, List
 
 ROOT = os.path.dirname(os.path.dirname(os.path.realpath(__file__)))
 LOG = f"{ROOT}/out/build.log"
@@ -125,7 +125,7 @@ def build(jobs: int) -> int:
     return 0
 
 
-def lines(stream: TextIO, log: TextIO) -> Iterator[str]:
+def lines(stream: IO[str], log: IO[str]) -> Iterator[str]:
     for line in stream:
         log.write(line)
         yield line

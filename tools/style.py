@@ -9,102 +9,57 @@ A line of the list has the measure, the file below crates/, the function (`#2` i
 """
 import argparse
 import os
-import re
 import sys
-from typing import Dict, Iterator, List, Tuple
+from typing import Dict, Tuple
 
-ROOT = os.path.dirname(os.path.dirname(os.path.realpath(__file__)))
-LIST = f"{ROOT}/tools/style.txt"
+sys.dont_write_bytecode = True
+from sources import repository
+from sources.rattle import Function, functions
+
+LIST = f"{repository.ROOT}/tools/style.txt"
 LIMITS = {"parameters": 6, "clauses": 8, "width": 100, "lines": 40}
-HEAD = re.compile(r'^( *)(?:pub(?:\([^)]*\))? )?(?:const )?(?:unsafe )?(?:extern "C" )?fn (\w+)', re.M)
-CLAUSE = re.compile(r"^\s+(?:requires|ensures)\b")
-SELF = re.compile(r"&?(?:'\w+ )?(?:mut )?self(?::.*)?$")
 
 # A measure, a file, a function.
 Key = Tuple[str, str, str]
 
 
-def sources() -> Iterator[str]:
-    """The paths of all sources, below crates/."""
-    for crate in sorted(os.listdir(f"{ROOT}/crates")):
-        for folder, folders, names in os.walk(f"{ROOT}/crates/{crate}/src"):
-            folders.sort()
-            for name in sorted(names):
-                if name.endswith(".rt"):
-                    yield os.path.relpath(os.path.join(folder, name), f"{ROOT}/crates")
-
-
-def parameters(head: str) -> int:
-    """How many parameters a function's head has, without self."""
-    depth, begin, found = 0, 0, []
-    for place in range(HEAD.match(head).end(), len(head)):  # type: ignore[union-attr]
-        if head[place] in "([{<":
-            depth += 1
-            begin = begin or (head[place] == "(" and depth == 1 and place + 1)
-        elif head[place] in ")]}" or (head[place] == ">" and head[place - 1] not in "-="):
-            depth -= 1
-        if begin and (depth == 0 or (depth == 1 and head[place] == ",")):
-            found.append(head[begin:place].strip())
-            begin = place + 1
-            if depth == 0:
-                break
-    return len([it for it in found if it and not SELF.match(it)])
-
-
-def measured(text: str, place: int, indent: str) -> "Dict[str, int]":
-    """What is measured of the function whose head begins at a place."""
-    lines = text[place:].split("\n")
-    clauses: List[str] = []
-    depth, begin = 0, -1
-    for n, line in enumerate(lines):
-        depth += line.count("(") + line.count("{") - line.count(")") - line.count("}")
-        if line in (f"{indent}{{", f"{indent}{{}}"):
-            begin = n
-            break
-        if clauses or CLAUSE.match(line):
-            clauses.append(line)
-        elif (line.endswith(" {") and depth == 1) or (line.endswith(" {}") and depth == 0):
-            begin = n
-            break
-        # One of a trait has no body.
-        if line.endswith(";") and depth == 0:
-            break
-    shut = next((n for n, it in enumerate(lines) if n > begin and it == f"{indent}}}"), begin)
+def measured(text: str, it: Function) -> "Dict[str, int]":
+    """What is measured of a function of a text."""
+    clauses = [clause for clause in it.clauses if clause.word in ("requires", "ensures")]
+    # From the line of the first clause up to that of the body's brace.
+    begin = text.rfind("\n", 0, clauses[0].begin) + 1 if clauses else it.end
+    end = text.rfind("\n", 0, it.body.start) if it.body else it.end
     return {
-        "parameters": parameters(text[place:]),
-        "clauses": len([it for it in clauses if CLAUSE.match(it)]),
-        "width": max([len(it) for it in clauses if not it.lstrip().startswith("//")], default=0),
-        "lines": 0 if begin < 0 or lines[begin].endswith("{}") else shut - begin - 1,
+        "parameters": len(it.parameters),
+        "clauses": len(clauses),
+        "width": max((len(line) for line in text[begin:end].split("\n") if not line.lstrip().startswith("//")), default=0),
+        "lines": max(text.count("\n", it.body.start, it.body.stop) - 1, 0) if it.body else 0,
     }
 
 
 def above() -> "Dict[Key, int]":
     """Each function above a limit, with its number."""
     found: Dict[Key, int] = {}
-    for path in sources():
-        with open(f"{ROOT}/crates/{path}", encoding="utf-8") as file:
-            text = file.read()
-        seen: Dict[str, int] = {}
-        for head in HEAD.finditer(text):
-            name = head[2]
-            seen[name] = seen.get(name, 0) + 1
-            if seen[name] > 1:
-                name = f"{name}#{seen[name]}"
-            for measure, number in measured(text, head.start(), head[1]).items():
-                if number > LIMITS[measure]:
-                    found[measure, path, name] = number
+    for crate in sorted(os.listdir(f"{repository.ROOT}/crates")):
+        for source in repository.sources(crate):
+            text = repository.read(f"crates/{crate}/{source}")
+            seen: Dict[str, int] = {}
+            for it in functions(text):
+                seen[it.name] = seen.get(it.name, 0) + 1
+                name = it.name if seen[it.name] == 1 else f"{it.name}#{seen[it.name]}"
+                for measure, number in measured(text, it).items():
+                    if number > LIMITS[measure]:
+                        found[measure, f"{crate}/{source}", name] = number
     return found
 
 
 def listed() -> "Dict[Key, int]":
-    with open(LIST, encoding="utf-8") as file:
-        rows = [line.split() for line in file if line.strip() and not line.startswith("#")]
+    rows = [line.split() for line in repository.text_of(LIST).splitlines() if line.strip() and not line.startswith("#")]
     return {(measure, path, name): int(number) for measure, path, name, number in rows}
 
 
 def write(rows: "Dict[Key, int]") -> None:
-    with open(LIST, encoding="utf-8") as file:
-        head = [line for line in file if line.startswith("#")]
+    head = [f"{line}\n" for line in repository.text_of(LIST).splitlines() if line.startswith("#")]
     with open(LIST, "w", encoding="utf-8") as file:
         file.writelines(head)
         file.writelines(f"{measure} {path} {name} {number}\n" for (measure, path, name), number in sorted(rows.items()))

@@ -5,7 +5,8 @@
 #include <set>
 #include <stdexcept>
 
-#include "hashes.h"
+#include "lanes.h"
+#include "script.h"
 
 struct OutPoint {
     Hash id{};
@@ -16,12 +17,12 @@ struct OutPoint {
 };
 struct TxIn {
     OutPoint prev;
-    Bytes script;
+    Script script;
     uint32_t sequence;
 };
 struct TxOut {
     int64_t value;
-    Bytes script;
+    Script script;
 };
 struct Tx {
     int32_t version = 1;
@@ -64,7 +65,7 @@ void put_compact(Sink& sink, uint64_t n) {
     else put(sink, uint8_t(0xff)), put(sink, n);
 }
 template <class Sink>
-void put_script(Sink& sink, const Bytes& script) {
+void put_script(Sink& sink, const Script& script) {
     put_compact(sink, script.size());
     sink.write(script.data(), script.size());
 }
@@ -146,9 +147,10 @@ struct Reader {
         if (n < least || n > 0x02000000) throw std::runtime_error("count");
         return n;
     }
-    void script(Bytes& script) {
-        script.resize(std::min<size_t>(compact(), end - at + 1));
-        read(script.data(), script.size());
+    void script(Script& script) {
+        size_t size = compact();
+        if (size_t(end - at) < size) throw std::runtime_error("short");
+        read(script.make(size), size);
     }
 };
 inline Tx read_tx(Reader& from) {
@@ -192,7 +194,7 @@ inline std::pair<Hash, bool> merkle(std::vector<Hash> level) {
     while (level.size() > 1) {
         for (size_t i = 0; i + 1 < level.size(); i += 2) twin |= level[i] == level[i + 1];
         if (level.size() & 1) level.push_back(level.back());
-        for (size_t i = 0; i < level.size() / 2; i++) level[i] = double_sha(level[2 * i].data(), 64);
+        hash_level(level.data(), level.size() / 2);
         level.resize(level.size() / 2);
     }
     return {level[0], twin};
@@ -206,26 +208,26 @@ inline bool meets_target(const Hash& id) {
 }
 
 // The next opcode, and where what it pushes stands.
-inline bool next_op(const Bytes& script, size_t& at, uint8_t& op, const uint8_t*& data, size_t& size) {
-    op = script[at++];
+inline bool next_op(const uint8_t*& at, const uint8_t* end, uint8_t& op, const uint8_t*& data, size_t& size) {
+    op = *at++;
     data = nullptr, size = 0;
     if (op > 0x4e) return true;
     size_t width = op < 0x4c ? 0 : op == 0x4c ? 1 : op == 0x4d ? 2 : 4;
-    if (script.size() - at < width) return false;
+    if (size_t(end - at) < width) return false;
     if (width == 0) size = op;
-    for (size_t i = 0; i < width; i++) size |= size_t(script[at + i]) << (8 * i);
+    for (size_t i = 0; i < width; i++) size |= size_t(at[i]) << (8 * i);
     at += width;
-    if (script.size() - at < size) return false;
-    data = script.data() + at;
+    if (size_t(end - at) < size) return false;
+    data = at;
     at += size;
     return true;
 }
-inline unsigned sigops(const Bytes& script) {
+inline unsigned sigops(const Script& script) {
     unsigned count = 0;
     uint8_t op;
-    const uint8_t* data;
-    size_t at = 0, size;
-    while (at < script.size() && next_op(script, at, op, data, size)) {
+    const uint8_t *at = script.begin(), *end = script.end(), *data;
+    size_t size;
+    while (at < end && next_op(at, end, op, data, size)) {
         if (op == 0xac || op == 0xad) count++;
         if (op == 0xae || op == 0xaf) count += 20;
     }

@@ -1,11 +1,9 @@
 // Blocks connected to coins, and a tree of blocks with undo, as Bitcoin Core does it (ConnectBlock, CBlockIndex, CBlockUndo).
 #pragma once
-#include <atomic>
 #include <memory>
-#include <thread>
 
+#include "checks.h"
 #include "coins.h"
-#include "scripts.h"
 
 using Undo = std::vector<std::vector<Coin>>;
 
@@ -17,41 +15,31 @@ constexpr Hash GENESIS_ID{0x06, 0x22, 0x6e, 0x46, 0x11, 0x1a, 0x0b, 0x59, 0xca, 
 inline int64_t subsidy(uint32_t height) { return height / 150 < 64 ? 5000000000 >> (height / 150) : 0; }
 
 // The push of a height that a coinbase begins with (BIP 34).
-inline Bytes height_push(uint32_t height) {
+inline Script height_push(uint32_t height) {
     if (height <= 16) return {uint8_t(height ? 0x50 + height : 0)};
     Bytes number;
     for (uint32_t rest = height; rest; rest >>= 8) number.push_back(uint8_t(rest));
     if (number.back() & 0x80) number.push_back(0);
-    number.insert(number.begin(), uint8_t(number.size()));
-    return number;
+    Script push(1, uint8_t(number.size()));
+    push.append(number.data(), number.size());
+    return push;
 }
 
-// The least place of a job that fails, by so many workers; the caller is one of them.
-inline size_t first_failure(const std::vector<Job>& jobs, const Table& table, size_t workers) {
-    std::atomic<size_t> next{0}, least{jobs.size()};
-    auto work = [&] {
-        for (size_t place; (place = next.fetch_add(1)) < jobs.size();) {
-            if (place > least.load() || verify(jobs[place], table)) continue;
-            size_t old = least.load();
-            while (place < old && !least.compare_exchange_weak(old, place)) {}
-        }
-    };
-    std::vector<std::thread> threads;
-    for (size_t i = 1; i < workers; i++) threads.emplace_back(work);
-    work();
-    for (std::thread& thread : threads) thread.join();
-    return least;
-}
-inline bool is_unspendable(const Bytes& script) { return (!script.empty() && script[0] == 0x6a) || script.size() > 10000; }
+inline bool is_unspendable(const Script& script) { return (!script.empty() && script[0] == 0x6a) || script.size() > 10000; }
+
+// So many checks are handed on at once while the block goes on: to wake a thread for each takes longer than the checks of
+// the workloads, which look signatures up.
+constexpr size_t GATHERED = 128;
 
 // Bitcoin Core's ConnectBlock on a view that is given up where it refuses: the coins that each transaction but the
 // first spent.
 inline std::optional<Undo> connect(
-    Cache& view, const Block& block, const std::vector<Hash>& ids, uint32_t height, const Table& table, size_t workers) {
+    Cache& view, const Block& block, const std::vector<Hash>& ids, uint32_t height, const Table& table, Checks& checks) {
     for (size_t t = 0; t < block.txs.size(); t++)
         for (uint32_t i = 0; i < block.txs[t].outputs.size(); i++)
             if (view.get(OutPoint{ids[t], i})) return std::nullopt;
     Undo undo;
+    Round round(checks, table);
     std::vector<Job> jobs;
     int64_t fees = 0;
     unsigned counted = 0;
@@ -73,12 +61,14 @@ inline std::optional<Undo> connect(
             std::vector<Coin>& spent = undo.emplace_back();
             for (const TxIn& input : tx.inputs) spent.push_back(std::move(*view.spend(input.prev)));
             for (size_t i = 0; i < spent.size(); i++) jobs.push_back(Job{&tx, i, &spent[i].script});
+            if (jobs.size() >= GATHERED) round.add(std::exchange(jobs, {}));
         }
         for (uint32_t i = 0; i < tx.outputs.size(); i++)
             if (!is_unspendable(tx.outputs[i].script)) view.add(OutPoint{ids[t], i}, Coin{tx.outputs[i].value, tx.outputs[i].script, height, t == 0});
     }
     if (block.txs[0].outputs[0].value > subsidy(height) + fees) return std::nullopt;
-    if (first_failure(jobs, table, workers) != jobs.size()) return std::nullopt;
+    round.add(jobs);
+    if (!round.finish()) return std::nullopt;
     return undo;
 }
 
@@ -112,7 +102,7 @@ class Chain {
     std::vector<Undo> undo{{}};
     CoinMap coins;
     Table table;
-    size_t workers;
+    Checks checks;
 
     // The median of the times of a block and the ten before it (GetMedianTimePast).
     uint32_t median(size_t place) const {
@@ -135,8 +125,8 @@ class Chain {
             for (const TxIn& input : tx.inputs)
                 if (input.sequence != 0xffffffff) return false;
         }
-        Bytes push = height_push(height);
-        const Bytes& script = block.txs[0].inputs[0].script;
+        Script push = height_push(height);
+        const Script& script = block.txs[0].inputs[0].script;
         return script.size() >= push.size() && std::equal(push.begin(), push.end(), script.begin());
     }
     // What lies between the active branch and this one: up to the fork down, and then up.
@@ -155,7 +145,7 @@ class Chain {
             Block block;
             std::vector<Hash> ids;
             if (i > 0) block = read_block(*nodes[up[i]].bytes), ids = ids_of(block.txs);
-            auto spent = connect(view, i > 0 ? block : *tip, i > 0 ? ids : *tip_ids, nodes[up[i]].height, table, workers);
+            auto spent = connect(view, i > 0 ? block : *tip, i > 0 ? ids : *tip_ids, nodes[up[i]].height, table, checks);
             if (!spent) return false;
             branch.push_back(up[i]);
             undo.push_back(std::move(*spent));
@@ -165,7 +155,7 @@ class Chain {
     }
 
 public:
-    explicit Chain(size_t workers = 1) : workers(workers) {}
+    explicit Chain(size_t workers = 1) : checks(workers) {}
     size_t height() const { return branch.size() - 1; }
     const Hash& best() const { return nodes[branch.back()].id; }
     const Coin* coin(const OutPoint& at) const {

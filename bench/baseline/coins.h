@@ -1,43 +1,45 @@
 // Coins by outpoint, and a layer over them with flags, as Bitcoin Core does it (CCoinsMap, CCoinsViewCache).
 #pragma once
-#include <unordered_map>
-
 #include "blocks.h"
+#include "pool.h"
 
 struct Coin {
     int64_t value = 0;
-    Bytes script;
+    Script script;
     uint32_t height = 0;
     bool coinbase = false;
 };
 
+// SipHash's state; the calls are inlined by force, since the compiler leaves some of fourteen rounds out of line.
+struct Sip {
+    uint64_t v0, v1, v2, v3;
+    static uint64_t turn(uint64_t x, int b) { return (x << b) | (x >> (64 - b)); }
+    [[gnu::always_inline]] void round() {
+        v0 += v1, v1 = turn(v1, 13), v1 ^= v0, v0 = turn(v0, 32);
+        v2 += v3, v3 = turn(v3, 16), v3 ^= v2;
+        v0 += v3, v3 = turn(v3, 21), v3 ^= v0;
+        v2 += v1, v1 = turn(v1, 17), v1 ^= v2, v2 = turn(v2, 32);
+    }
+    [[gnu::always_inline]] void word(uint64_t m) { v3 ^= m, round(), round(), v0 ^= m; }
+};
 // SipHash-2-4 of an id and an index, with a key by chance, so that strangers can't choose places in the map.
 struct SaltedHasher {
     uint64_t k0 = 0x0706050403020100, k1 = 0x0f0e0d0c0b0a0908;
-    static uint64_t turn(uint64_t x, int b) { return (x << b) | (x >> (64 - b)); }
     size_t operator()(const OutPoint& at) const {
-        uint64_t v0 = 0x736f6d6570736575 ^ k0, v1 = 0x646f72616e646f6d ^ k1;
-        uint64_t v2 = 0x6c7967656e657261 ^ k0, v3 = 0x7465646279746573 ^ k1;
-        auto round = [&] {
-            v0 += v1, v1 = turn(v1, 13), v1 ^= v0, v0 = turn(v0, 32);
-            v2 += v3, v3 = turn(v3, 16), v3 ^= v2;
-            v0 += v3, v3 = turn(v3, 21), v3 ^= v0;
-            v2 += v1, v1 = turn(v1, 17), v1 ^= v2, v2 = turn(v2, 32);
-        };
-        auto word = [&](uint64_t m) { v3 ^= m, round(), round(), v0 ^= m; };
+        Sip sip{0x736f6d6570736575 ^ k0, 0x646f72616e646f6d ^ k1, 0x6c7967656e657261 ^ k0, 0x7465646279746573 ^ k1};
         for (int i = 0; i < 4; i++) {
             uint64_t m;
             std::memcpy(&m, at.id.data() + 8 * i, 8);
-            word(m);
+            sip.word(m);
         }
-        word((uint64_t(36) << 56) | at.index);
-        v2 ^= 0xff;
-        for (int i = 0; i < 4; i++) round();
-        return v0 ^ v1 ^ v2 ^ v3;
+        sip.word((uint64_t(36) << 56) | at.index);
+        sip.v2 ^= 0xff;
+        for (int i = 0; i < 4; i++) sip.round();
+        return sip.v0 ^ sip.v1 ^ sip.v2 ^ sip.v3;
     }
 };
 
-using CoinMap = std::unordered_map<OutPoint, Coin, SaltedHasher>;
+using CoinMap = PooledMap<OutPoint, Coin, SaltedHasher>;
 
 class Cache {
 public:
@@ -45,7 +47,7 @@ public:
         std::optional<Coin> coin;
         bool dirty = false, fresh = false;
     };
-    using Entries = std::unordered_map<OutPoint, Entry, SaltedHasher>;
+    using Entries = PooledMap<OutPoint, Entry, SaltedHasher>;
 
 private:
     const CoinMap& base;

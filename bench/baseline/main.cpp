@@ -1,4 +1,5 @@
 // The workloads of crates/bench, in plain C++: prints name, size, seconds and check of one of them.
+#include <atomic>
 #include <chrono>
 #include <cstdio>
 #include <cstdlib>
@@ -100,25 +101,25 @@ static std::string merkle_root(size_t size) {
     return shown(root);
 }
 
-static Bytes to_key_hash(const ShortHash& hash) {
-    Bytes script{0x76, 0xa9, 20};
-    script.insert(script.end(), hash.begin(), hash.end());
+static Script to_key_hash(const ShortHash& hash) {
+    Script script{0x76, 0xa9, 20};
+    script.append(hash.data(), hash.size());
     script.push_back(0x88);
     script.push_back(0xac);
     return script;
 }
-static Tx spending(OutPoint prev, Bytes script, std::vector<TxOut> outputs) {
+static Tx spending(OutPoint prev, Script script, std::vector<TxOut> outputs) {
     return Tx{1, {TxIn{prev, std::move(script), 0xffffffff}}, std::move(outputs), 0};
 }
 // An input script of the usual length: the push of a signature and of a key.
-static Bytes signed_input(Filling& filling) {
+static Script signed_input(Filling& filling) {
     auto input = filling.bytes<106>();
     input[0] = 71, input[72] = 33;
-    return Bytes(input.begin(), input.end());
+    return Script(input.data(), input.data() + input.size());
 }
 static Tx payment(Filling& filling) {
     OutPoint prev{filling.bytes<32>(), 0};
-    Bytes input = signed_input(filling);
+    Script input = signed_input(filling);
     std::vector<TxOut> outputs;
     for (int64_t value : {1000, 2000}) outputs.push_back(TxOut{value, to_key_hash(filling.bytes<20>())});
     return spending(prev, std::move(input), outputs);
@@ -198,7 +199,7 @@ static std::string records(size_t size) {
 }
 
 struct Spends {
-    std::vector<std::pair<Tx, Bytes>> list;
+    std::vector<std::pair<Tx, Script>> list;
     Table table;
     std::vector<Job> jobs() const {
         std::vector<Job> jobs;
@@ -220,11 +221,11 @@ static Bytes new_signature(Filling& filling) {
     signature.push_back(1);
     return signature;
 }
-static void put_push(Bytes& script, const Bytes& bytes) {
+static void put_push(Script& script, const Bytes& bytes) {
     script.push_back(uint8_t(bytes.size()));
-    script.insert(script.end(), bytes.begin(), bytes.end());
+    script.append(bytes.data(), bytes.size());
 }
-static Tx spender(Filling& filling, const Bytes& input) {
+static Tx spender(Filling& filling, const Script& input) {
     OutPoint prev{filling.bytes<32>(), 0};
     return spending(prev, input, {TxOut{1000, to_key_hash(filling.bytes<20>())}});
 }
@@ -235,11 +236,12 @@ static Spends to_keys(size_t size) {
     Filling filling{6};
     Spends spends;
     for (size_t number = 0; number < size; number++) {
-        Bytes key = new_key(filling, number), signature = new_signature(filling), input;
+        Bytes key = new_key(filling, number), signature = new_signature(filling);
+        Script input;
         put_push(input, signature);
         put_push(input, key);
         Tx tx = spender(filling, input);
-        Bytes spent = to_key_hash(hash160(key.data(), key.size()));
+        Script spent = to_key_hash(hash160(key.data(), key.size()));
         add(spends.table, key, signature, signature_hash(tx, 0, spent));
         spends.list.emplace_back(std::move(tx), std::move(spent));
     }
@@ -249,7 +251,8 @@ static Spends to_two_of_three(size_t size) {
     Filling filling{7};
     Spends spends;
     for (size_t number = 0; number < size; number++) {
-        Bytes keys[3], signatures[2], input{0}, spent{0x52};
+        Bytes keys[3], signatures[2];
+        Script input{0}, spent{0x52};
         for (int i = 0; i < 3; i++) keys[i] = new_key(filling, 3 * number + i);
         for (Bytes& signature : signatures) signature = new_signature(filling), put_push(input, signature);
         Tx tx = spender(filling, input);
@@ -262,7 +265,7 @@ static Spends to_two_of_three(size_t size) {
     }
     return spends;
 }
-static Spends one(const Bytes& input, Bytes spent) {
+static Spends one(const Script& input, Script spent) {
     Filling filling{8};
     Spends spends;
     spends.list.emplace_back(spender(filling, input), std::move(spent));
@@ -270,41 +273,44 @@ static Spends one(const Bytes& input, Bytes spent) {
 }
 static Spends swaps() {
     Filling filling{9};
-    Bytes input;
+    Script input;
     for (int i = 0; i < 2; i++) {
         auto element = filling.bytes<520>();
         for (uint8_t byte : {0x4d, 8, 2}) input.push_back(byte);
-        input.insert(input.end(), element.begin(), element.end());
+        input.append(element.data(), element.size());
     }
-    return one(input, Bytes(201, 0x7c));
+    return one(input, Script(201, 0x7c));
 }
 static Spends hashes() {
     auto element = Filling{10}.bytes<32>();
-    Bytes input;
+    Script input;
     put_push(input, Bytes(element.begin(), element.end()));
-    return one(input, Bytes(200, 0xaa));
+    return one(input, Script(200, 0xaa));
 }
 // 66 CHECKSIG of the two elements that the input leaves, in a script of 9,600 opcodes.
-static Bytes long_script() {
-    Bytes script{0, 0x63};
-    script.resize(9401, 0x51);
+static Script long_script() {
+    Bytes ones(9399, 0x51);
+    Script script{0, 0x63};
+    script.append(ones.data(), ones.size());
     script.push_back(0x68);
     for (int i = 0; i < 66; i++)
         for (uint8_t op : {0x6e, 0xac, 0x75}) script.push_back(op);
     return script;
 }
 // The same of a signature and a key that it pushes itself.
-static Bytes long_script_alone() {
+static Script long_script_alone() {
     Filling filling{17};
-    Bytes key = new_key(filling, 0), script, rest = long_script();
+    Bytes key = new_key(filling, 0);
+    Script script, rest = long_script();
     put_push(script, new_signature(filling));
     put_push(script, key);
-    script.insert(script.end(), rest.begin(), rest.end());
+    script.append(rest.data(), rest.size());
     return script;
 }
 static Spends long_code() {
     Filling filling{11};
-    Bytes key = new_key(filling, 0), signature = new_signature(filling), input, spent = long_script();
+    Bytes key = new_key(filling, 0), signature = new_signature(filling);
+    Script input, spent = long_script();
     put_push(input, signature);
     put_push(input, key);
     Spends spends = one(input, spent);
@@ -317,7 +323,7 @@ static Spends conditions() {
     spent.resize(9801, 0x51);
     spent.resize(9901, 0x68);
     spent.push_back(0x51);
-    return one({}, spent);
+    return one({}, Script(spent.data(), spent.data() + spent.size()));
 }
 static std::string verify_each(const Spends& spends, size_t times = 1) {
     std::vector<Job> jobs = spends.jobs();
@@ -329,7 +335,7 @@ static std::string verify_each(const Spends& spends, size_t times = 1) {
     return std::to_string(count);
 }
 
-static Tx many_inputs(size_t size, const Bytes& script) {
+static Tx many_inputs(size_t size, const Script& script) {
     Filling filling{12};
     Tx tx;
     for (size_t i = 0; i < size; i++) tx.inputs.push_back(TxIn{OutPoint{filling.bytes<32>(), 0}, script, 0});
@@ -337,7 +343,7 @@ static Tx many_inputs(size_t size, const Bytes& script) {
 }
 static std::string digests(size_t size) {
     Tx tx = many_inputs(1000, {});
-    Bytes code(25, 0xac);
+    Script code(25, 0xac);
     Hash last{};
     start();
     for (size_t i = 0; i < size; i++) last = signature_hash(tx, i % 1000, code);
@@ -346,7 +352,8 @@ static std::string digests(size_t size) {
 }
 static std::string each_input(size_t size) {
     Filling filling{13};
-    Bytes key = new_key(filling, 0), signature = new_signature(filling), input, spent;
+    Bytes key = new_key(filling, 0), signature = new_signature(filling);
+    Script input, spent;
     put_push(input, signature);
     put_push(spent, key);
     spent.push_back(0xac);
@@ -363,9 +370,14 @@ static std::string each_input(size_t size) {
 static std::string queue(size_t size, size_t workers, size_t times) {
     Spends spends = to_keys(size);
     std::vector<Job> jobs = spends.jobs();
+    Checks checks(workers);
     uint64_t count = 0;
     start();
-    for (size_t i = 0; i < times; i++) count += first_failure(jobs, spends.table, workers) == jobs.size();
+    for (size_t i = 0; i < times; i++) {
+        Round round(checks, spends.table);
+        round.add(jobs);
+        count += round.finish();
+    }
     stop();
     return std::to_string(count);
 }
@@ -373,7 +385,7 @@ static std::string queue(size_t size, size_t workers, size_t times) {
 static std::pair<OutPoint, Coin> next_coin(Filling& filling) {
     OutPoint at{filling.bytes<32>(), 0};
     at.index = filling.next() % 4;
-    Bytes script = to_key_hash(filling.bytes<20>());
+    Script script = to_key_hash(filling.bytes<20>());
     return {at, Coin{int64_t(filling.next() % 5000000000), script, 7, false}};
 }
 static std::string coins_insert(size_t size) {
@@ -434,9 +446,10 @@ static std::string connected(size_t size, size_t workers) {
     Block block = block_with(std::move(payments));
     std::vector<Hash> ids = ids_of(block.txs);
     if (!block_alone(block, ids)) return "refused";
+    Checks checks(workers);
     start();
     Cache view(map);
-    auto undo = connect(view, block, ids, 101, spends.table, workers);
+    auto undo = connect(view, block, ids, 101, spends.table, checks);
     Cache::Entries below;
     view.flush(below);
     stop();
@@ -452,12 +465,12 @@ struct Branch {
     Hash last = GENESIS_ID, coinbase{};
     Bytes next(std::vector<Tx> payments = {}) {
         height++;
-        Bytes input = height_push(height);
+        Script input = height_push(height);
         input.push_back(4);
         for (int i = 0; i < 4; i++) input.push_back(uint8_t(number >> (8 * i)));
         Block block;
         block.txs.push_back(spending(OutPoint{Hash{}, 0xffffffff}, input, {TxOut{subsidy(height), {0x51}}}));
-        if (data > 0) block.txs[0].outputs.push_back(TxOut{0, Bytes(data, 0x6a)});
+        if (data > 0) block.txs[0].outputs.push_back(TxOut{0, Script(data, uint8_t(0x6a))});
         coinbase = id_of(block.txs[0]);
         for (Tx& tx : payments) block.txs.push_back(std::move(tx));
         block.header = Header{4, last, merkle(ids_of(block.txs)).first, GENESIS_TIME + height, 0x207fffff, 0};

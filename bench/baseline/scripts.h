@@ -31,7 +31,7 @@ struct Table {
 };
 
 // What a signature signs, for the hash type ALL (Bitcoin Core's SignatureHash).
-inline Hash signature_hash(const Tx& tx, size_t input, const Bytes& code) {
+inline Hash signature_hash(const Tx& tx, size_t input, const Script& code) {
     Writer writer;
     put(writer, tx.version);
     put_compact(writer, tx.inputs.size());
@@ -61,25 +61,23 @@ inline bool is_strict(const Bytes& s) {
 }
 
 // Takes the pushes of a signature out of a script (Bitcoin Core's FindAndDelete).
-inline void find_and_delete(Bytes& script, const Bytes& signature) {
-    Bytes push;
-    push.push_back(uint8_t(signature.size()));
-    push.insert(push.end(), signature.begin(), signature.end());
-    Bytes result;
-    size_t at = 0, kept = 0, found = 0;
+inline void find_and_delete(Script& script, const Bytes& signature) {
+    Script push(1, uint8_t(signature.size()));
+    push.append(signature.data(), signature.size());
+    Script result;
+    const uint8_t *at = script.begin(), *end = script.end(), *kept = at, *data;
+    size_t size, found = 0;
     uint8_t op;
-    const uint8_t* data;
-    size_t size;
     do {
-        result.insert(result.end(), script.begin() + kept, script.begin() + at);
-        while (script.size() - at >= push.size() && std::equal(push.begin(), push.end(), script.begin() + at)) {
+        result.append(kept, size_t(at - kept));
+        while (size_t(end - at) >= push.size() && std::equal(push.begin(), push.end(), at)) {
             at += push.size();
             found++;
         }
         kept = at;
-    } while (at < script.size() && next_op(script, at, op, data, size));
+    } while (at < end && next_op(at, end, op, data, size));
     if (found == 0) return;
-    result.insert(result.end(), script.begin() + kept, script.end());
+    result.append(kept, size_t(end - kept));
     script = std::move(result);
 }
 
@@ -108,27 +106,27 @@ struct Conditions {
 struct Job {
     const Tx* tx;
     size_t input;
-    const Bytes* spent;
+    const Script* spent;
 };
 
-inline bool check_signature(const Bytes& signature, const Bytes& key, const Bytes& code, const Job& job, const Table& table) {
+inline bool check_signature(const Bytes& signature, const Bytes& key, const Script& code, const Job& job, const Table& table) {
     if (signature.empty()) return false;
     Hash digest = signature_hash(*job.tx, job.input, code);
     return table.has(key, signature.data(), signature.size() - 1, digest);
 }
 
 // Bitcoin Core's EvalScript.
-inline bool run(std::vector<Bytes>& stack, const Bytes& script, const Job& job, const Table& table) {
+inline bool run(std::vector<Bytes>& stack, const Script& script, const Job& job, const Table& table) {
     if (script.size() > 10000) return false;
     Conditions conditions;
-    size_t at = 0, size, begin = 0;
+    const uint8_t *at = script.begin(), *const end = script.end(), *data;
+    size_t size;
     int counted = 0;
     uint8_t op;
-    const uint8_t* data;
     auto top = [&](int i) -> Bytes& { return stack[stack.size() + i]; };
-    while (at < script.size()) {
+    while (at < end) {
         bool executes = conditions.executes();
-        if (!next_op(script, at, op, data, size) || size > 520) return false;
+        if (!next_op(at, end, op, data, size) || size > 520) return false;
         if (op > 0x60 && ++counted > 201) return false;
         if (executes && op <= 0x4e) {
             stack.emplace_back(data, data + size);
@@ -194,7 +192,7 @@ inline bool run(std::vector<Bytes>& stack, const Bytes& script, const Job& job, 
             }
             case 0xac: {
                 if (stack.size() < 2) return false;
-                Bytes code(script.begin() + begin, script.end());
+                Script code(script);
                 find_and_delete(code, top(-2));
                 if (!top(-2).empty() && !is_strict(top(-2))) return false;
                 bool valid = check_signature(top(-2), top(-1), code, job, table);
@@ -209,7 +207,7 @@ inline bool run(std::vector<Bytes>& stack, const Bytes& script, const Job& job, 
                 if (keys > 20 || (counted += keys) > 201 || int(stack.size()) < keys + 3) return false;
                 int signatures = top(-(keys + 2))[0], at_signature = keys + 3;
                 if (signatures > keys || int(stack.size()) < keys + signatures + 3) return false;
-                Bytes code(script.begin() + begin, script.end());
+                Script code(script);
                 for (int i = 0; i < signatures; i++) find_and_delete(code, top(-(at_signature + i)));
                 int used = keys + signatures + 3;
                 bool valid = true;

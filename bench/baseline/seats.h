@@ -7,7 +7,7 @@ constexpr uint64_t SUBMITTED = 0xffffffff;
 using Places = std::vector<OutPoint>;
 using BlockList = std::vector<Bytes>;
 
-static std::vector<Tx> payments_of(Filling& filling, const OutPoint* coins, size_t count, size_t outputs, int64_t worth, const Bytes& script) {
+static std::vector<Tx> payments_of(Filling& filling, const OutPoint* coins, size_t count, size_t outputs, int64_t worth, const Script& script) {
     std::vector<Tx> payments;
     for (size_t i = 0; i < count; i++)
         payments.push_back(spending(coins[i], signed_input(filling), std::vector<TxOut>(outputs, TxOut{worth, script})));
@@ -32,7 +32,7 @@ struct Start {
             unripe.push_back(OutPoint{branch.coinbase, 0});
         }
     }
-    void fan(size_t count, const Bytes& script) {
+    void fan(size_t count, const Script& script) {
         for (size_t done = 0, at = 0; done < count; at++) {
             size_t outputs = std::min(FAN, count - done);
             std::vector<Tx> payments = payments_of(filling, &unripe[at], 1, outputs, WORTH, script);

@@ -1,12 +1,12 @@
 /*
- * The calls that users make. This file is trusted: nothing proves it. It checks its arguments, names chainstates and
- * transactions by numbers, and lets one call at a time into each; the work is done by the proved functions ffi_*, of
+ * The calls that users make. This file is trusted: nothing proves it. It checks its arguments, names chainstates,
+ * transactions and sets of coins by numbers, and lets one call at a time into each; the work is done by the proved functions ffi_*, of
  * crates/ffi.
  *
  * What it owes them: each pointer points to what its type says and to nothing that another argument points to; a slot
  * is zero bytes at first and is written by them alone; one call at a time uses a slot, and the next one sees all that
- * it wrote (the words below are read and written in one order by all threads). A session and a transaction may go from
- * thread to thread: crates/ffi has the prover show it.
+ * it wrote (the words below are read and written in one order by all threads). What is in a slot may go from thread
+ * to thread: crates/ffi has the prover show it.
  */
 #include "wakotehu.h"
 
@@ -44,6 +44,17 @@ struct told {
     uint32_t error;
 };
 
+/* What is asked of all inputs, and what is told of them. */
+struct all_asked {
+    struct bytes scripts, sizes, valid, invalid;
+    uint32_t flags;
+};
+
+struct all_told {
+    uint64_t line, count, input;
+    uint32_t error;
+};
+
 uint32_t ffi_open(struct slot *slot, const wakotehu_heights *heights, const uint8_t *table, size_t length,
                   uint64_t *line);
 uint32_t ffi_open_by_need(struct slot *slot, const wakotehu_heights *heights);
@@ -70,15 +81,52 @@ uint32_t ffi_header(struct slot *slot, const uint8_t *id, wakotehu_header_shown 
 uint32_t ffi_spent(struct slot *slot, const uint8_t *id, wakotehu_coin *coins, size_t most, uint8_t *scripts,
                    size_t room, wakotehu_spent_size *size);
 
+/* Where a block is connected. */
+struct setting {
+    struct bytes medians;
+    wakotehu_heights heights;
+    uint32_t height, cutoff;
+};
+
+struct inputs_told {
+    int64_t fee;
+    uint32_t reason;
+};
+
+uint32_t ffi_utxo_open(struct slot *slot);
+uint32_t ffi_utxo_close(struct slot *slot);
+uint32_t ffi_utxo_put(struct slot *slot, const struct place *at, const wakotehu_coin *coin, const uint8_t *script,
+                      size_t length);
+uint32_t ffi_utxo_coin(struct slot *slot, const struct place *at, wakotehu_coin *coin, uint8_t *script, size_t length);
+uint32_t ffi_utxo_coin_after(struct slot *slot, uint32_t above, struct place *at, wakotehu_coin *coin, uint8_t *script,
+                             size_t length);
+uint32_t ffi_utxo_learn(struct slot *slot, const uint8_t *key, size_t key_length, const uint8_t *signature,
+                        size_t signature_length, const uint8_t *digest, uint32_t valid);
+uint32_t ffi_utxo_want(struct slot *slot, uint64_t index, uint8_t *line, size_t length, uint64_t *needed);
+uint32_t ffi_utxo_spent(struct slot *slot, wakotehu_coin *coins, size_t most, uint8_t *scripts, size_t room,
+                        wakotehu_spent_size *size);
+uint32_t ffi_connect(struct slot *slot, const uint8_t *bytes, size_t length, const struct setting *setting,
+                     wakotehu_fault *fault);
+uint32_t ffi_disconnect(struct slot *slot);
+uint32_t ffi_check_tx_inputs(struct slot *slot, const uint8_t *bytes, size_t length, uint32_t height,
+                             struct inputs_told *told);
+
 uint32_t ffi_tx_read(struct slot *slot, const uint8_t *bytes, size_t length, uint64_t *used);
 uint32_t ffi_tx_read_whole(struct slot *slot, const uint8_t *bytes, size_t length);
 uint32_t ffi_tx_free(struct slot *slot);
 uint32_t ffi_tx_verify_input(struct slot *slot, const struct question *question, struct told *told, uint8_t *asked,
                              size_t room);
+uint32_t ffi_tx_verify(struct slot *slot, const struct all_asked *question, struct all_told *told, uint8_t *asked,
+                       size_t room);
 
-_Static_assert(sizeof(struct slot) == 16 && offsetof(struct slot, at) == 8, "as Slot and TxSlot of crates/ffi");
+_Static_assert(sizeof(struct slot) == 16 && offsetof(struct slot, at) == 8, "as Slot, TxSlot and UtxoSlot of crates/ffi");
 _Static_assert(sizeof(struct question) == 64 && offsetof(struct question, flags) == 56, "as InputQuestion");
 _Static_assert(sizeof(struct told) == 24 && offsetof(struct told, error) == 16, "as InputTold");
+_Static_assert(sizeof(struct all_asked) == 72 && offsetof(struct all_asked, flags) == 64, "as AllQuestion");
+_Static_assert(sizeof(struct all_told) == 32 && offsetof(struct all_told, error) == 24, "as AllTold");
+_Static_assert(sizeof(struct setting) == 40 && offsetof(struct setting, cutoff) == 36, "as BlockSetting");
+_Static_assert(sizeof(struct inputs_told) == 16 && offsetof(struct inputs_told, reason) == 8, "as InputsTold");
+_Static_assert(sizeof(wakotehu_fault) == 24 && offsetof(wakotehu_fault, reason) == 16, "as Fault");
 _Static_assert(sizeof(struct place) == 36, "as Place");
 _Static_assert(sizeof(wakotehu_answer) == 24, "as Answer");
 _Static_assert(sizeof(wakotehu_tip) == 56 && offsetof(wakotehu_tip, status) == 48, "as ShownTip");
@@ -86,8 +134,8 @@ _Static_assert(sizeof(wakotehu_coin) == 24, "as ShownCoin");
 _Static_assert(sizeof(wakotehu_header_shown) == 96 && offsetof(wakotehu_header_shown, height) == 80, "as ShownHeader");
 _Static_assert(sizeof(wakotehu_spent_size) == 16, "as ShownSpent");
 
-/* ---- handles. A handle is the number of an opening, and below it the place: in one byte that of a chainstate, in two
- * that of a transaction. The word of a place is the number of its last opening, and below it in two bits what it is.
+/* ---- handles. A handle is the number of an opening, and below it the place: in one byte that of a chainstate or of a set
+ * of coins, in two that of a transaction. The word of a place is the number of its last opening, and below it in two bits what it is.
  * Places are never given back. */
 
 enum { FREE = 0, OPEN = 1, IN_USE = 2 };
@@ -95,7 +143,7 @@ enum { FREE = 0, OPEN = 1, IN_USE = 2 };
 static struct chain {
     _Atomic uint64_t word;
     struct slot slot;
-} chains[WAKOTEHU_MOST];
+} chains[WAKOTEHU_MOST], sets[WAKOTEHU_MOST];
 
 static uint64_t word_of(uint64_t number, uint64_t state) { return number << 2 | state; }
 
@@ -129,8 +177,9 @@ static bool readable(const void *bytes, size_t length) { return (bytes || !lengt
 
 /* ---- opening and closing */
 
-/* What is opened: by a table, or by need, or as another one is. */
+/* What is opened: by a table, or by need, or as another one is; or a set of coins. */
 struct opening {
+    struct chain *places;
     const wakotehu_heights *heights;
     const uint8_t *table;
     size_t length;
@@ -140,6 +189,8 @@ struct opening {
 };
 
 static uint32_t open_slot(struct slot *slot, const struct opening *asked) {
+    if (asked->places == sets)
+        return ffi_utxo_open(slot);
     if (asked->copied)
         return ffi_copy(asked->copied, slot);
     if (asked->by_need)
@@ -150,16 +201,17 @@ static uint32_t open_slot(struct slot *slot, const struct opening *asked) {
 /* Opens in the first place that is free. */
 static wakotehu_code open_place(wakotehu_handle *handle, const struct opening *asked) {
     for (uint64_t place = 0; place < WAKOTEHU_MOST; place++) {
-        uint64_t word = atomic_load(&chains[place].word);
+        struct chain *free_place = &asked->places[place];
+        uint64_t word = atomic_load(&free_place->word);
         wakotehu_handle made = ((word >> 2) + 1) << 8 | place;
         if ((word & 3) != FREE || made >> 62 != 0)
             continue;
-        if (!atomic_compare_exchange_strong(&chains[place].word, &word, word_of(made >> 8, IN_USE)))
+        if (!atomic_compare_exchange_strong(&free_place->word, &word, word_of(made >> 8, IN_USE)))
             continue;
-        uint32_t code = open_slot(&chains[place].slot, asked);
+        uint32_t code = open_slot(&free_place->slot, asked);
         if (code == WAKOTEHU_OK)
             *handle = made;
-        atomic_store(&chains[place].word, word_of(made >> 8, code == WAKOTEHU_OK ? OPEN : FREE));
+        atomic_store(&free_place->word, word_of(made >> 8, code == WAKOTEHU_OK ? OPEN : FREE));
         return (wakotehu_code)code;
     }
     return WAKOTEHU_TOO_MANY;
@@ -171,13 +223,13 @@ wakotehu_code wakotehu_open(wakotehu_handle *handle, const wakotehu_heights *hei
     if (!handle || !heights || !readable(table, length))
         return WAKOTEHU_NULL;
     const uint8_t *bytes = length ? (const uint8_t *)table : no_bytes;
-    return open_place(handle, &(struct opening){heights, bytes, length, line ? line : &unasked, false, NULL});
+    return open_place(handle, &(struct opening){chains, heights, bytes, length, line ? line : &unasked, false, NULL});
 }
 
 wakotehu_code wakotehu_open_by_need(wakotehu_handle *handle, const wakotehu_heights *heights) {
     if (!handle || !heights)
         return WAKOTEHU_NULL;
-    return open_place(handle, &(struct opening){heights, no_bytes, 0, NULL, true, NULL});
+    return open_place(handle, &(struct opening){chains, heights, no_bytes, 0, NULL, true, NULL});
 }
 
 wakotehu_code wakotehu_copy(wakotehu_handle handle, wakotehu_handle *copy) {
@@ -186,7 +238,7 @@ wakotehu_code wakotehu_copy(wakotehu_handle handle, wakotehu_handle *copy) {
     wakotehu_code code = enter(handle);
     if (code != WAKOTEHU_OK)
         return code;
-    return leave(handle, open_place(copy, &(struct opening){NULL, no_bytes, 0, NULL, false, slot_of(handle)}));
+    return leave(handle, open_place(copy, &(struct opening){chains, NULL, no_bytes, 0, NULL, false, slot_of(handle)}));
 }
 
 wakotehu_code wakotehu_close(wakotehu_handle handle) {
@@ -246,14 +298,17 @@ wakotehu_code wakotehu_precious(wakotehu_handle handle, const uint8_t *id, wakot
 
 /* ---- signatures by need */
 
+/* Which signature is wanted, of a chainstate or of a set of coins. */
+typedef uint32_t (*want_at)(struct slot *, uint64_t, uint8_t *, size_t, uint64_t *);
+
 /* Hands on the lines of the wanted signatures. */
-static uint32_t wants(struct slot *slot, wakotehu_want_call call, void *context) {
+static uint32_t wants(struct slot *slot, want_at want, wakotehu_want_call call, void *context) {
     uint8_t small[1024], *room = small;
     size_t length = sizeof small;
     uint32_t code = WAKOTEHU_OK;
     for (uint64_t n = 0; code == WAKOTEHU_OK; n++) {
         uint64_t needed = 0;
-        code = ffi_want(slot, n, room, length, &needed);
+        code = want(slot, n, room, length, &needed);
         if (code == WAKOTEHU_TOO_SMALL) {
             uint8_t *larger = malloc(needed);
             if (!larger) {
@@ -264,7 +319,7 @@ static uint32_t wants(struct slot *slot, wakotehu_want_call call, void *context)
                 free(room);
             room = larger;
             length = needed;
-            code = ffi_want(slot, n, room, length, &needed);
+            code = want(slot, n, room, length, &needed);
         }
         if (code == WAKOTEHU_UNKNOWN)
             code = call(context, (const char *)room, needed) != 0 ? WAKOTEHU_NONE : WAKOTEHU_OK;
@@ -278,18 +333,18 @@ wakotehu_code wakotehu_wants(wakotehu_handle handle, wakotehu_want_call call, vo
     if (!call)
         return WAKOTEHU_NULL;
     wakotehu_code code = enter(handle);
-    return code != WAKOTEHU_OK ? code : leave(handle, wants(slot_of(handle), call, context));
+    return code != WAKOTEHU_OK ? code : leave(handle, wants(slot_of(handle), ffi_want, call, context));
 }
 
 /* Puts the lines one after the other as far as there is room, and counts the bytes of all. */
-static uint32_t want_lines(struct slot *slot, uint8_t *lines, size_t room, size_t *needed) {
+static uint32_t want_lines(struct slot *slot, want_at want, uint8_t *lines, size_t room, size_t *needed) {
     uint8_t none[1];
     size_t filled = 0;
     uint32_t code = WAKOTEHU_UNKNOWN;
     for (uint64_t n = 0; code == WAKOTEHU_UNKNOWN || code == WAKOTEHU_TOO_SMALL; n++) {
         uint64_t length = 0;
         size_t left = filled < room ? room - filled : 0;
-        code = ffi_want(slot, n, left ? lines + filled : none, left, &length);
+        code = want(slot, n, left ? lines + filled : none, left, &length);
         filled += length;
     }
     if (code != WAKOTEHU_NONE)
@@ -302,7 +357,8 @@ wakotehu_code wakotehu_want_lines(wakotehu_handle handle, char *lines, size_t ro
     if (!readable(lines, room) || !needed)
         return WAKOTEHU_NULL;
     wakotehu_code code = enter(handle);
-    return code != WAKOTEHU_OK ? code : leave(handle, want_lines(slot_of(handle), (uint8_t *)lines, room, needed));
+    return code != WAKOTEHU_OK ? code
+                               : leave(handle, want_lines(slot_of(handle), ffi_want, (uint8_t *)lines, room, needed));
 }
 
 wakotehu_code wakotehu_learn(wakotehu_handle handle, const uint8_t *key, size_t key_length, const uint8_t *signature,
@@ -423,9 +479,12 @@ struct listed {
     size_t length;
 };
 
+/* The coin at the least outpoint above another, of a chainstate or of a set of coins. */
+typedef uint32_t (*coin_after)(struct slot *, uint32_t, struct place *, wakotehu_coin *, uint8_t *, size_t);
+
 /* The coin above the one that was listed last, or the first one. */
-static uint32_t next_coin(struct slot *slot, uint32_t above, struct listed *listed) {
-    uint32_t code = ffi_coin_after(slot, above, &listed->at, &listed->coin, listed->script, listed->length);
+static uint32_t next_coin(struct slot *slot, coin_after after, uint32_t above, struct listed *listed) {
+    uint32_t code = after(slot, above, &listed->at, &listed->coin, listed->script, listed->length);
     if (code != WAKOTEHU_TOO_SMALL)
         return code;
     uint8_t *larger = realloc(listed->script, listed->coin.script);
@@ -433,26 +492,29 @@ static uint32_t next_coin(struct slot *slot, uint32_t above, struct listed *list
         return WAKOTEHU_MEMORY;
     listed->script = larger;
     listed->length = listed->coin.script;
-    return ffi_coin_after(slot, above, &listed->at, &listed->coin, listed->script, listed->length);
+    return after(slot, above, &listed->at, &listed->coin, listed->script, listed->length);
 }
 
-static uint32_t coins(struct slot *slot, struct listed *listed, wakotehu_coin_call call, void *context) {
-    uint32_t code = next_coin(slot, 0, listed);
+static uint32_t each_coin(struct slot *slot, coin_after after, struct listed *listed, wakotehu_coin_call call,
+                          void *context) {
+    uint32_t code = next_coin(slot, after, 0, listed);
     while (code == WAKOTEHU_OK && call(context, listed->at.id, listed->at.index, &listed->coin, listed->script) == 0)
-        code = next_coin(slot, 1, listed);
+        code = next_coin(slot, after, 1, listed);
     return code == WAKOTEHU_NONE ? WAKOTEHU_OK : code;
+}
+
+static uint32_t coins(struct slot *slot, coin_after after, wakotehu_coin_call call, void *context) {
+    struct listed listed = {.script = malloc(64), .length = 64};
+    uint32_t found = listed.script ? each_coin(slot, after, &listed, call, context) : WAKOTEHU_MEMORY;
+    free(listed.script);
+    return found;
 }
 
 wakotehu_code wakotehu_coins(wakotehu_handle handle, wakotehu_coin_call call, void *context) {
     if (!call)
         return WAKOTEHU_NULL;
     wakotehu_code code = enter(handle);
-    if (code != WAKOTEHU_OK)
-        return code;
-    struct listed listed = {.script = malloc(64), .length = 64};
-    uint32_t found = listed.script ? coins(slot_of(handle), &listed, call, context) : WAKOTEHU_MEMORY;
-    free(listed.script);
-    return leave(handle, found);
+    return code != WAKOTEHU_OK ? code : leave(handle, coins(slot_of(handle), ffi_coin_after, call, context));
 }
 
 /* ---- transactions that are read once */
@@ -537,6 +599,171 @@ wakotehu_code wakotehu_tx_verify_input(wakotehu_tx tx, uint64_t input, const uin
         *needed = told.count;
     if (code == WAKOTEHU_BAD_TABLE && line)
         *line = told.line;
+    return code;
+}
+
+wakotehu_code wakotehu_tx_verify(wakotehu_tx tx, const uint8_t *scripts, size_t length, const uint64_t *sizes, size_t count,
+                                 uint32_t flags, const char *valid, size_t valid_length, const char *invalid,
+                                 size_t invalid_length, uint64_t *line, uint64_t *input, uint32_t *error, char *asked,
+                                 size_t room, uint64_t *needed) {
+    static const uint64_t no_sizes[1];
+    struct all_asked question = {bytes_of(scripts, length), {count ? sizes : no_sizes, count},
+                                 bytes_of(valid, valid_length), bytes_of(invalid, invalid_length), flags};
+    struct all_told told = {0, 0, 0, 0};
+    uint8_t none[1];
+    if (!readable(scripts, length) || (!sizes && count) || count > PTRDIFF_MAX / sizeof *sizes
+        || !readable(valid, valid_length) || !readable(invalid, invalid_length) || !input || !error
+        || !readable(asked, room) || !needed)
+        return WAKOTEHU_NULL;
+    struct parsed *own = parsed_at(tx);
+    wakotehu_code code = enter_place(&own->word, tx >> 16);
+    if (code != WAKOTEHU_OK)
+        return code;
+    code = (wakotehu_code)ffi_tx_verify(&own->slot, &question, &told, room ? (uint8_t *)asked : none, room);
+    atomic_store(&own->word, word_of(tx >> 16, OPEN));
+    if (code == WAKOTEHU_OK) {
+        *input = told.input;
+        *error = told.error;
+    }
+    if (code == WAKOTEHU_UNKNOWN || code == WAKOTEHU_TOO_SMALL)
+        *needed = told.count;
+    if (code == WAKOTEHU_BAD_TABLE && line)
+        *line = told.line;
+    return code;
+}
+
+/* ---- coins that are given */
+
+static wakotehu_code enter_set(wakotehu_utxo utxo) { return enter_place(&sets[utxo & 255].word, utxo >> 8); }
+
+static struct slot *set_of(wakotehu_utxo utxo) { return &sets[utxo & 255].slot; }
+
+static wakotehu_code leave_set(wakotehu_utxo utxo, uint32_t code) {
+    atomic_store(&sets[utxo & 255].word, word_of(utxo >> 8, OPEN));
+    return (wakotehu_code)code;
+}
+
+static struct place place_of(const uint8_t *id, uint32_t index) {
+    struct place at = {.index = index};
+    memcpy(at.id, id, sizeof at.id);
+    return at;
+}
+
+wakotehu_code wakotehu_utxo_open(wakotehu_utxo *utxo) {
+    return utxo ? open_place(utxo, &(struct opening){.places = sets}) : WAKOTEHU_NULL;
+}
+
+wakotehu_code wakotehu_utxo_close(wakotehu_utxo utxo) {
+    wakotehu_code code = enter_set(utxo);
+    if (code != WAKOTEHU_OK)
+        return code;
+    code = (wakotehu_code)ffi_utxo_close(set_of(utxo));
+    atomic_store(&sets[utxo & 255].word, word_of(utxo >> 8, FREE));
+    return code;
+}
+
+wakotehu_code wakotehu_utxo_put(wakotehu_utxo utxo, const uint8_t *id, uint32_t index, const wakotehu_coin *coin,
+                                const uint8_t *script) {
+    if (!id || !coin || !readable(script, coin->script))
+        return WAKOTEHU_NULL;
+    struct place at = place_of(id, index);
+    wakotehu_code code = enter_set(utxo);
+    if (code != WAKOTEHU_OK)
+        return code;
+    return leave_set(utxo, ffi_utxo_put(set_of(utxo), &at, coin, coin->script ? script : no_bytes, coin->script));
+}
+
+wakotehu_code wakotehu_utxo_coin_at(wakotehu_utxo utxo, const uint8_t *id, uint32_t index, wakotehu_coin *coin,
+                                    uint8_t *script, size_t length) {
+    uint8_t none[1];
+    if (!id || !coin || !readable(script, length))
+        return WAKOTEHU_NULL;
+    struct place at = place_of(id, index);
+    wakotehu_code code = enter_set(utxo);
+    if (code != WAKOTEHU_OK)
+        return code;
+    return leave_set(utxo, ffi_utxo_coin(set_of(utxo), &at, coin, length ? script : none, length));
+}
+
+wakotehu_code wakotehu_utxo_coins(wakotehu_utxo utxo, wakotehu_coin_call call, void *context) {
+    if (!call)
+        return WAKOTEHU_NULL;
+    wakotehu_code code = enter_set(utxo);
+    return code != WAKOTEHU_OK ? code : leave_set(utxo, coins(set_of(utxo), ffi_utxo_coin_after, call, context));
+}
+
+wakotehu_code wakotehu_utxo_spent(wakotehu_utxo utxo, wakotehu_coin *rows, size_t most, uint8_t *scripts, size_t room,
+                                  wakotehu_spent_size *size) {
+    wakotehu_coin no_row;
+    uint8_t none[1];
+    if ((!rows && most) || most > PTRDIFF_MAX / sizeof *rows || !readable(scripts, room) || !size)
+        return WAKOTEHU_NULL;
+    wakotehu_code code = enter_set(utxo);
+    if (code != WAKOTEHU_OK)
+        return code;
+    return leave_set(utxo,
+                     ffi_utxo_spent(set_of(utxo), most ? rows : &no_row, most, room ? scripts : none, room, size));
+}
+
+wakotehu_code wakotehu_utxo_wants(wakotehu_utxo utxo, wakotehu_want_call call, void *context) {
+    if (!call)
+        return WAKOTEHU_NULL;
+    wakotehu_code code = enter_set(utxo);
+    return code != WAKOTEHU_OK ? code : leave_set(utxo, wants(set_of(utxo), ffi_utxo_want, call, context));
+}
+
+wakotehu_code wakotehu_utxo_want_lines(wakotehu_utxo utxo, char *lines, size_t room, size_t *needed) {
+    if (!readable(lines, room) || !needed)
+        return WAKOTEHU_NULL;
+    wakotehu_code code = enter_set(utxo);
+    return code != WAKOTEHU_OK
+               ? code
+               : leave_set(utxo, want_lines(set_of(utxo), ffi_utxo_want, (uint8_t *)lines, room, needed));
+}
+
+wakotehu_code wakotehu_utxo_learn(wakotehu_utxo utxo, const uint8_t *key, size_t key_length, const uint8_t *signature,
+                                  size_t signature_length, const uint8_t *digest, int valid) {
+    if (!readable(key, key_length) || !readable(signature, signature_length) || !digest)
+        return WAKOTEHU_NULL;
+    wakotehu_code code = enter_set(utxo);
+    if (code != WAKOTEHU_OK)
+        return code;
+    return leave_set(utxo, ffi_utxo_learn(set_of(utxo), key_length ? key : no_bytes, key_length,
+                                          signature_length ? signature : no_bytes, signature_length, digest, valid != 0));
+}
+
+wakotehu_code wakotehu_connect(wakotehu_utxo utxo, const uint8_t *block, size_t length, const wakotehu_setting *setting,
+                               wakotehu_fault *fault) {
+    static const uint32_t no_medians[1];
+    if (!readable(block, length) || !setting || !fault || (!setting->medians && setting->count)
+        || setting->count > PTRDIFF_MAX / sizeof *setting->medians)
+        return WAKOTEHU_NULL;
+    struct setting own = {{setting->count ? setting->medians : no_medians, setting->count}, setting->heights,
+                          setting->height, setting->cutoff};
+    wakotehu_code code = enter_set(utxo);
+    if (code != WAKOTEHU_OK)
+        return code;
+    return leave_set(utxo, ffi_connect(set_of(utxo), length ? block : no_bytes, length, &own, fault));
+}
+
+wakotehu_code wakotehu_disconnect(wakotehu_utxo utxo) {
+    wakotehu_code code = enter_set(utxo);
+    return code != WAKOTEHU_OK ? code : leave_set(utxo, ffi_disconnect(set_of(utxo)));
+}
+
+wakotehu_code wakotehu_check_tx_inputs(wakotehu_utxo utxo, const uint8_t *bytes, size_t length, uint32_t height,
+                                       uint32_t *reason, int64_t *fee) {
+    struct inputs_told told = {0, 0};
+    if (!readable(bytes, length) || !reason || !fee)
+        return WAKOTEHU_NULL;
+    wakotehu_code code = enter_set(utxo);
+    if (code != WAKOTEHU_OK)
+        return code;
+    code = leave_set(utxo, ffi_check_tx_inputs(set_of(utxo), length ? bytes : no_bytes, length, height, &told));
+    if (code == WAKOTEHU_OK) {
+        *reason = told.reason;
+        *fee = told.fee;
+    }
     return code;
 }
 

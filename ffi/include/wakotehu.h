@@ -256,6 +256,73 @@ typedef int (*wakotehu_coin_call)(void *context, const uint8_t *id, uint32_t ind
  * `context` is passed on. Where there is no memory, WAKOTEHU_MEMORY is answered, and some coins may have been told. */
 wakotehu_code wakotehu_coins(wakotehu_handle handle, wakotehu_coin_call call, void *context);
 
+/* ---- Coins that are given: blocks and transactions over a set of coins of the caller's own, apart from any chainstate.
+ * Such a set has no blocks below it: it takes the caller's word for where a block stands.
+ *
+ * One call at a time uses a set, as a handle. Signatures are found out by need, as of wakotehu_open_by_need. */
+typedef uint64_t wakotehu_utxo;
+
+/* Where a block is connected: its height; the median time past of its parent; the medians time past of its parent's branch
+ * by height, that of genesis first, of which only those below the coins that it spends are asked (BIP 68; one that lacks
+ * counts as 0); and from which heights soft forks are in force. medians may be null where count is 0. */
+typedef struct {
+    const uint32_t *medians;
+    size_t count;
+    wakotehu_heights heights;
+    uint32_t height, cutoff;
+} wakotehu_setting;
+
+/* The first rule that a block breaks, 0 where it breaks none; of "blk-bad-inputs" (29) the transaction and the input, from
+ * 0, whose script isn't accepted, else 0. */
+typedef struct {
+    uint64_t transaction, input;
+    uint32_t reason;
+} wakotehu_fault;
+
+/* Opens a set without coins. Each has to be given back by wakotehu_utxo_close. At most WAKOTEHU_MOST are open at once. */
+wakotehu_code wakotehu_utxo_open(wakotehu_utxo *utxo);
+wakotehu_code wakotehu_utxo_close(wakotehu_utxo utxo);
+
+/* Puts a coin in, in the place of one at the same outpoint: the id of a transaction (32 bytes) and the output's number.
+ * script: coin->script bytes, which are copied; null where they are none. Values aren't looked at: they count as they are.
+ * The block that was connected last can't be taken back any more. */
+wakotehu_code wakotehu_utxo_put(wakotehu_utxo utxo, const uint8_t *id, uint32_t index, const wakotehu_coin *coin,
+                                const uint8_t *script);
+
+/* The coin at an outpoint, and all coins, as wakotehu_coin_at and wakotehu_coins have those of a chainstate. */
+wakotehu_code wakotehu_utxo_coin_at(wakotehu_utxo utxo, const uint8_t *id, uint32_t index, wakotehu_coin *coin,
+                                    uint8_t *script, size_t length);
+wakotehu_code wakotehu_utxo_coins(wakotehu_utxo utxo, wakotehu_coin_call call, void *context);
+
+/* Connects the block of these bytes (Bitcoin Core's CheckBlock and ConnectBlock): the first rule that it breaks by itself,
+ * or over the coins, its scripts last. Where it breaks none the set has the coins after it; else nothing has changed. What
+ * a block may break by its place, under its parent, isn't asked (wakotehu_block_place). Bytes that are no block are
+ * answered as by wakotehu_read_block. WAKOTEHU_WANTS where signatures have to be found out first: by wakotehu_utxo_wants,
+ * wakotehu_utxo_want_lines and wakotehu_utxo_learn, which are as those of a chainstate. */
+wakotehu_code wakotehu_connect(wakotehu_utxo utxo, const uint8_t *block, size_t length, const wakotehu_setting *setting,
+                               wakotehu_fault *fault);
+
+/* Takes back the block that was connected last (DisconnectBlock): the set has the coins from before it. WAKOTEHU_NONE where
+ * there is none, where it was taken back, and where a coin was put in since. */
+wakotehu_code wakotehu_disconnect(wakotehu_utxo utxo);
+
+/* The coins that this block spent, its undo data, as wakotehu_spent has them of an active one. */
+wakotehu_code wakotehu_utxo_spent(wakotehu_utxo utxo, wakotehu_coin *coins, size_t most, uint8_t *scripts, size_t room,
+                                  wakotehu_spent_size *size);
+
+wakotehu_code wakotehu_utxo_wants(wakotehu_utxo utxo, wakotehu_want_call call, void *context);
+wakotehu_code wakotehu_utxo_want_lines(wakotehu_utxo utxo, char *lines, size_t room, size_t *needed);
+wakotehu_code wakotehu_utxo_learn(wakotehu_utxo utxo, const uint8_t *key, size_t key_length, const uint8_t *signature,
+                                  size_t signature_length, const uint8_t *digest, int valid);
+
+/* What the transaction at the front of these bytes gives as its fee in a block of this height, in satoshis, or the first
+ * rule that it breaks by itself or by the coins that it spends (CheckTransaction, CheckTxInputs): missing, too young, worth
+ * less than it pays. reason is 0 where it breaks none, and else fee is. A fee that 64 bits can't say is the nearest one that
+ * they can. A coinbase spends nothing, so its fee is what it pays, below 0. Locks and scripts aren't asked. WAKOTEHU_TOO_LARGE
+ * where it has more than 1,000,000 inputs and outputs, which no block has room for. */
+wakotehu_code wakotehu_check_tx_inputs(wakotehu_utxo utxo, const uint8_t *bytes, size_t length, uint32_t height,
+                                       uint32_t *reason, int64_t *fee);
+
 /* Bitcoin Core's word for a reason, as "bad-cb-amount"; "blk-bad-inputs" for 29; "" for a number that is no reason's.
  * The text lives as long as the program. */
 const char *wakotehu_reason_text(uint32_t reason);
@@ -505,6 +572,16 @@ wakotehu_code wakotehu_tx_verify_input(wakotehu_tx tx, uint64_t input, const uin
                                        uint32_t flags, const char *valid, size_t valid_length, const char *invalid,
                                        size_t invalid_length, uint64_t *line, uint32_t *error, char *asked, size_t room,
                                        uint64_t *needed);
+
+/* The same of all inputs at once: the first that may not spend its script, and the number of its failure; `error` is
+ * WAKOTEHU_SCRIPT_OK, and `input` 0, where each may. What the messages of its signatures have in common is hashed once for
+ * all, so this costs less than a call for each. scripts: those that the inputs spend, one after the other, sizes[n] bytes
+ * each. WAKOTEHU_MISMATCH where there is no size for each input, or the bytes are more or fewer. Inputs behind one that is
+ * refused, or that asks for a signature of which nothing is known, aren't looked at. */
+wakotehu_code wakotehu_tx_verify(wakotehu_tx tx, const uint8_t *scripts, size_t length, const uint64_t *sizes, size_t count,
+                                 uint32_t flags, const char *valid, size_t valid_length, const char *invalid,
+                                 size_t invalid_length, uint64_t *line, uint64_t *input, uint32_t *error, char *asked,
+                                 size_t room, uint64_t *needed);
 
 /* Gives a transaction's memory back. */
 wakotehu_code wakotehu_tx_free(wakotehu_tx tx);

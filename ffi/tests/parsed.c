@@ -1,50 +1,10 @@
 /* Transactions that are read once: each allocation refused in turn, handles misused and fought for by threads, and each
- * answer beside that of the call that reads the bytes. Prints nothing where all is well. malloc, calloc, realloc and free go
- * by the wrappers below (the linker's --wrap). */
+ * answer beside that of the call that reads the bytes. Prints nothing where all is well. */
 #include <pthread.h>
-#include <stdatomic.h>
-#include <stdio.h>
-#include <stdlib.h>
 #include <string.h>
 #include <wakotehu.h>
 
-static _Atomic long left = -1; /* so many allocations until one is refused; below 0: none is */
-static _Atomic long live;      /* so many pieces of memory are in use */
-
-void *__real_malloc(size_t size);
-void *__real_calloc(size_t count, size_t size);
-void *__real_realloc(void *old, size_t size);
-void __real_free(void *old);
-
-static int is_refused(void) { return left >= 0 && left-- == 0; }
-
-static void *counted(void *made) {
-    live += made != NULL;
-    return made;
-}
-
-void *__wrap_malloc(size_t size) { return is_refused() ? NULL : counted(__real_malloc(size)); }
-
-void *__wrap_calloc(size_t count, size_t size) { return is_refused() ? NULL : counted(__real_calloc(count, size)); }
-
-void *__wrap_realloc(void *old, size_t size) {
-    if (is_refused())
-        return NULL;
-    return old ? __real_realloc(old, size) : counted(__real_realloc(old, size));
-}
-
-void __wrap_free(void *old) {
-    live -= old != NULL;
-    __real_free(old);
-}
-
-#define EXPECT(holds)                                                          \
-    do {                                                                       \
-        if (!(holds)) {                                                        \
-            fprintf(stderr, "%s:%d: %s\n", __FILE__, __LINE__, #holds);        \
-            exit(1);                                                           \
-        }                                                                      \
-    } while (0)
+#include "refused.h"
 
 /* Three inputs with the scripts 51, 52 and (a signature that is a hash type alone, a key) 01 01 01 02, and an output. */
 enum { INPUTS = 3, TX = 4 + 1 + 42 + 42 + 45 + 1 + 9 + 4 };
@@ -204,6 +164,68 @@ static void refused_allocations(void) {
     EXPECT(wakotehu_tx_free(own) == WAKOTEHU_OK && live == before);
 }
 
+/* Of all inputs at once: 1 ADD 2 is 3, 2 ADD 2 is 4, and a signature. */
+static const uint8_t all_scripts[] = {0x52, 0x93, 0x53, 0x9c, 0x52, 0x93, 0x54, 0x9c, 0xac};
+static const uint64_t all_sizes[INPUTS] = {4, 4, 1};
+
+struct all {
+    struct told told;
+    uint64_t input;
+};
+
+static struct all nothing_of_all(void) {
+    struct all it;
+    memset(&it, 0xa5, sizeof it);
+    return it;
+}
+
+static wakotehu_code all_inputs(wakotehu_tx own, const uint64_t *sizes, size_t count, size_t length, const char *valid,
+                                const char *invalid, struct all *it) {
+    return wakotehu_tx_verify(own, all_scripts, length, sizes, count, 1, valid, strlen(valid), invalid, strlen(invalid),
+                              &it->told.line, &it->input, &it->told.error, it->told.asked, 256, &it->told.needed);
+}
+
+static void all_at_once(void) {
+    static const uint64_t wrong_sizes[INPUTS] = {8, 0, 1}, more[] = {4, 4, 1, 0}, huge[INPUTS] = {UINT64_MAX, 9, 1};
+    const size_t length = sizeof all_scripts;
+    wakotehu_tx own = opened();
+    struct all it = nothing_of_all(), clean = nothing_of_all();
+    struct told one = nothing_told();
+    EXPECT(all_inputs(own, all_sizes, INPUTS - 1, 8, "", "", &it) == WAKOTEHU_MISMATCH);
+    EXPECT(all_inputs(own, more, INPUTS + 1, length, "", "", &it) == WAKOTEHU_MISMATCH);
+    EXPECT(all_inputs(own, all_sizes, INPUTS, length - 1, "", "", &it) == WAKOTEHU_MISMATCH);
+    EXPECT(all_inputs(own, huge, INPUTS, length, "", "", &it) == WAKOTEHU_MISMATCH);
+    EXPECT(all_inputs(own, NULL, 1, length, "", "", &it) == WAKOTEHU_NULL);
+    EXPECT(all_inputs(own, all_sizes, SIZE_MAX, length, "", "", &it) == WAKOTEHU_NULL);
+    EXPECT(all_inputs(0, all_sizes, INPUTS, length, "", "", &it) == WAKOTEHU_CLOSED && memcmp(&it, &clean, sizeof it) == 0);
+    /* The last input asks for what it asks by itself. */
+    EXPECT(all_inputs(own, all_sizes, INPUTS, length, "", "", &it) == WAKOTEHU_UNKNOWN);
+    EXPECT(by_handle(own, &(struct question){2, checksig, 1, 1, "", "", 256}, &one) == WAKOTEHU_UNKNOWN);
+    EXPECT(memcmp(&it.told, &one, sizeof one) == 0 && it.input == clean.input);
+    it.told.asked[it.told.needed] = 0;
+    char line[256];
+    strcpy(line, it.told.asked);
+    EXPECT(all_inputs(own, all_sizes, INPUTS, length, line, "", &it) == WAKOTEHU_OK && it.input == 0);
+    EXPECT(it.told.error == WAKOTEHU_SCRIPT_OK);
+    EXPECT(all_inputs(own, all_sizes, INPUTS, length, "", line, &it) == WAKOTEHU_OK && it.input == 2);
+    EXPECT(it.told.error == WAKOTEHU_SCRIPT_EVAL_FALSE);
+    /* One that is refused keeps the others from being looked at. */
+    EXPECT(all_inputs(own, wrong_sizes, INPUTS, length, "", "", &it) == WAKOTEHU_OK && it.input == 0);
+    EXPECT(it.told.error == WAKOTEHU_SCRIPT_INVALID_STACK_OPERATION || it.told.error == WAKOTEHU_SCRIPT_EVAL_FALSE);
+    long kept = live;
+    int met = 1;
+    for (long n = 0; met; n++) {
+        struct all refused = nothing_of_all();
+        left = n;
+        wakotehu_code code = all_inputs(own, all_sizes, INPUTS, length, "", "", &refused);
+        met = left < 0;
+        left = -1;
+        EXPECT(code == (met ? WAKOTEHU_MEMORY : WAKOTEHU_UNKNOWN) && live == kept);
+        EXPECT(!met || memcmp(&refused, &clean, sizeof clean) == 0);
+    }
+    EXPECT(wakotehu_tx_free(own) == WAKOTEHU_OK);
+}
+
 static void misused(void) {
     wakotehu_tx own = opened(), wrong[] = {0, 1, 65535, UINT64_MAX, own + 1, own + 65536, own << 32, 0};
     struct told it = nothing_told(), clean = nothing_told();
@@ -277,6 +299,7 @@ int main(void) {
     readings();
     same_answers();
     refused_allocations();
+    all_at_once();
     misused();
     too_many();
     threads();

@@ -62,6 +62,8 @@ class Keeping:
             [running.PROGRAM, "serve", "--seats", "16", "--datadir", "data", *words],
             cwd=folder, stdin=PIPE, stdout=PIPE, stderr=PIPE, bufsize=0, **how,
         )  # fmt: skip
+        assert self.process.stdin and self.process.stdout and self.process.stderr
+        self.stdin, self.stdout, self.stderr = self.process.stdin, self.process.stdout, self.process.stderr
         self.clients, self.asked = clients, [0] * 16
         self.waiting: dict[int, Optional[tuple[str, str]]] = {}
         self.lock = threading.Lock()
@@ -77,13 +79,13 @@ class Keeping:
         with self.lock:
             self.waiting[number] = step
         try:
-            self.process.stdin.write(line)
+            self.stdin.write(line)
         except BrokenPipeError:
             pass
 
     def _read(self) -> None:
         rest = b""
-        while piece := self.process.stdout.read(1 << 16):
+        while piece := self.stdout.read(1 << 16):
             *lines, rest = (rest + piece).split(b"\n")
             for line in lines:
                 self._take(line)
@@ -120,7 +122,7 @@ class Keeping:
         """Ends the input: the status and the standard error."""
         self.stops = True
         try:
-            self.process.stdin.close()
+            self.stdin.close()
         except BrokenPipeError:
             pass
         return self.finish()
@@ -129,11 +131,11 @@ class Keeping:
         # A process that doesn't end by itself is ended, which its status tells.
         late = threading.Timer(running.SECONDS, self.process.kill)
         late.start()
-        err = self.process.stderr.read().decode("latin-1")
+        err = self.stderr.read().decode("latin-1")
         status = self.process.wait(running.SECONDS)
         late.cancel()
         self.reader.join(running.SECONDS)
-        for stream in (self.process.stdin, self.process.stdout, self.process.stderr):
+        for stream in (self.stdin, self.stdout, self.stderr):
             try:
                 stream.close()
             except BrokenPipeError:

@@ -8,10 +8,11 @@ import subprocess
 import tempfile
 import time
 import unittest
+from typing import Any
 
 import blocks
 import running
-from keeping import GENESIS, LOG, NOW, Client, Keeping, KeepingTest, os_environment
+from keeping import GENESIS, NOW, Client, Keeping, KeepingTest, os_environment
 from serving import Served
 from test_torn_ends import COMMANDS, batch
 
@@ -92,20 +93,23 @@ class Folders(KeepingTest):
 class Disks(KeepingTest):
     """Disks that fail, by a library under the program."""
 
+    library: str
+
     @classmethod
     def setUpClass(cls) -> None:
-        cls.room = tempfile.TemporaryDirectory(prefix="regchain-")
-        cls.addClassCleanup(cls.room.cleanup)
-        cls.library = os.path.join(cls.room.name, "disk.so")
+        room = tempfile.TemporaryDirectory(prefix="regchain-")
+        cls.addClassCleanup(room.cleanup)
+        cls.library = os.path.join(room.name, "disk.so")
         subprocess.run(["cc", "-O1", "-shared", "-fPIC", "-o", cls.library, os.path.join(HERE, "disk.c"), "-ldl"], check=True)
 
-    def played(self, **more: str) -> tuple[int, list[dict[str, object]], str]:
+    def played(self, **more: str) -> tuple[int, list[dict[str, Any]], str]:
         """Serves the batch twice, a line at a time, until an answer doesn't come."""
         environment = os_environment(LD_PRELOAD=self.library, **more)
         process = subprocess.Popen(
             [running.PROGRAM, "serve", "--datadir", "data"], cwd=self.folder, env=environment,
             stdin=subprocess.PIPE, stdout=subprocess.PIPE, stderr=subprocess.PIPE,
         )  # fmt: skip
+        assert process.stdin and process.stdout and process.stderr
         answers = []
         for line in batch(COMMANDS + COMMANDS).splitlines(keepends=True):
             try:
@@ -157,7 +161,7 @@ class Disks(KeepingTest):
         )
         if mounted.returncode:
             self.skipTest("nothing can be mounted here")
-        self.addCleanup(subprocess.run, ["umount", "-l", self.path("data")])
+        self.addCleanup(lambda: subprocess.run(["umount", "-l", self.path("data")]))
         clients = [Client(seat, seat, [(blocks.FIRST_ID, blocks.FIRST)]) for seat in range(16)]
         keeping = Keeping(self.folder, clients)
         keeping.run()

@@ -9,7 +9,7 @@ import blocks
 import running
 from keeping import GENESIS, LOG, NOW, KeepingTest, whole_lines
 
-COMMANDS = [
+COMMANDS: list[tuple[str, dict[str, object]]] = [
     ("submit", {"block": blocks.FIRST, "now": NOW}),
     ("invalidate", {"id": GENESIS}),
     ("invalidate", {"id": blocks.FIRST_ID}),

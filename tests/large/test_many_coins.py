@@ -13,7 +13,7 @@ from writing import transaction
 sys.path[:0] = [os.path.join(ROOT, "tests", "refusals"), os.path.join(ROOT, "tools")]
 
 import places  # noqa: E402
-import unproved  # noqa: E402
+from sources import repository  # noqa: E402
 
 # A coin that comes where one map holds so many has many maps opened, and each that comes then brings one over
 # (crates/coins).
@@ -205,7 +205,7 @@ class RefusedCoins(ProgramTest):
 
     def test_allocations_refused(self) -> None:
         self.make_folder("room")
-        self.calls = places.Program(running.PROGRAM, set(unproved.crates(ROOT)))
+        self.calls = places.Program(running.PROGRAM, set(repository.crates()))
         self.calls.write_table(self.path("table"))
         before = ["txout A:1 = 1 51 height 105 conf 2 @106", "txout A:3 = 1 51 height 105 conf 2 @106"]
         before += ["txout B:0 = 1 51 height 106 conf 1 @106", "txout X:0 = none @106", "best = b @106"]

@@ -95,8 +95,9 @@ class Played:
                 lines.append(line)
 
     def steps(self) -> list[Step]:
-        found = [re.fullmatch(r"(\d+) (\d+) (.*) = (.*)", line) for line in self.journal]
-        return [Step(int(it[1]), int(it[2]), it[3], it[4]) for it in found]
+        found = re.findall(r"(?m)^(\d+) (\d+) (.*) = (.*)$", "\n".join(self.journal))
+        assert len(found) == len(self.journal)
+        return [Step(int(stamp), int(seat), command, reply) for stamp, seat, command, reply in found]
 
 
 def answer(line: str) -> Answer:

@@ -4,7 +4,7 @@ from __future__ import annotations
 import random
 import re
 import unittest
-from typing import NamedTuple
+from typing import Any, NamedTuple
 
 from playing_lists import Played, client, in_parallel, play
 
@@ -97,7 +97,7 @@ CASES = [
 ]
 
 
-def replies(door: str, definitions: str, commands: list[str], **settings: object) -> list[str]:
+def replies(door: str, definitions: str, commands: list[str], **settings: Any) -> list[str]:
     """What is answered to commands, the state behind them left out."""
     printed = play(door, definitions + client("a", commands), **settings).splitlines()
     return [line.split(" = ")[1] for line in printed if line.partition(" ")[0] in ("submit", "invalidate")]

@@ -81,7 +81,8 @@ class ManyInputs(unittest.TestCase):
     def test_digests_are_found_once(self) -> None:
         """Where scripts are run before the lock, digests are found there, and not again under it: so a block takes less than one and a
         half times as long as by one thread, and not twice as long. The plays are made in turn, and the least of three ratios counts."""
-        texts = {(door, code): given([code] * 2_000, SIGNATURE + ALL, *rest) for _, door, *rest in DOORS[:2] for code in (ASKS, DROPS)}
+        doors = [(door, code, blocks, commands) for _, door, blocks, commands in DOORS[:2] for code in (ASKS, DROPS)]
+        texts = {(door, code): given([code] * 2_000, SIGNATURE + ALL, blocks, commands) for door, code, blocks, commands in doors}
         self.assertLess(min(early_ratio(texts) for _ in range(3)), 1.5)
 
     def test_eight_times_the_inputs(self) -> None:
@@ -126,5 +127,5 @@ def busy_once(door: str, text: str) -> float:
         told.seek(0)
         assert not status and "submit x = accepted" in told.read(), status
         # What of it was the system's is known by samples alone, and none may fall into the rest.
-        return usage.ru_utime + usage.ru_stime
+        return float(usage.ru_utime + usage.ru_stime)
 

@@ -8,7 +8,7 @@ in vain, the program goes on after some looks and says `not met`.
 from __future__ import annotations
 
 import unittest
-from typing import NamedTuple
+from typing import Any, NamedTuple
 
 from playing_lists import Played, client, in_parallel, play
 
@@ -127,7 +127,7 @@ ROWS = [
 def played(row: Row) -> Played:
     text = DEFINITIONS + "".join(client(f"s{number}", lines) for number, lines in enumerate(row.clients))
     heights = f"1,{row.forks},{row.forks},{row.forks}"
-    numbers = {"seats": 2, "workers": row.workers, "threads": row.threads, "wanted": row.wanted}
+    numbers: dict[str, Any] = {"seats": 2, "workers": row.workers, "threads": row.threads, "wanted": row.wanted}
     return Played(play("node", text, heights=heights, **numbers))
 
 

@@ -4,6 +4,7 @@ from __future__ import annotations
 import os
 import tempfile
 import unittest
+from typing import Any
 
 from playing_lists import in_parallel, play
 
@@ -56,7 +57,7 @@ class Run:
         self.status = int(status.removeprefix("status "))
 
 
-def run(words: list[str], text: str, folder: str | None = None, **settings: object) -> Run:
+def run(words: list[str], text: str, folder: str | None = None, **settings: Any) -> Run:
     return Run(play("program", text, words, folder, **settings))
 
 
@@ -65,7 +66,7 @@ class Workers(unittest.TestCase):
 
     def expect(self, words: list[str], scenario: str, meet: bool) -> None:
         with self.subTest(words=words, meet=meet):
-            looks = {} if meet else {"looks": FEW}
+            looks: dict[str, Any] = {} if meet else {"looks": FEW}
             given = run([*RUN, *words], scenario, wanted=3, **looks)
             self.assertEqual((given.status, given.err), (0, []))
             self.assertEqual(given.gate, f"gate = {'met' if meet else 'not met'}, 3 begun, 3 ended\n")

@@ -2,6 +2,8 @@
 node's seats in turn."""
 from __future__ import annotations
 
+from typing import Any, Callable
+
 from playing_lists import ListTest, Played, answers, in_parallel, is_write, journal, play, play_list
 from scenarios import BRANCHES, NAMED, SPENDS, Scenario
 
@@ -22,7 +24,7 @@ def lines(scenario: Scenario) -> list[str]:
 
 
 class Table(ListTest):
-    def expect(self, scenarios: list[Scenario], door: str, wanted: object) -> None:
+    def expect(self, scenarios: list[Scenario], door: str, wanted: Callable[[Scenario], list[str]]) -> None:
         """The answers at a door begin with these, and then comes that to bytes that are no block."""
 
         def played(scenario: Scenario) -> list[str]:
@@ -60,7 +62,7 @@ class Table(ListTest):
 
 
 class Seats(ListTest):
-    def expect(self, seats: int, workers: int, **settings: object) -> None:
+    def expect(self, seats: int, workers: int, **settings: Any) -> None:
         """The whole table: every answer with its stamp, and the journal."""
 
         def played(scenario: Scenario) -> Played:

@@ -111,13 +111,13 @@ class Seats(ListTest):
             played = Played(play("node", text, seats=4, workers=2))
             return seed, played, Right(drawn.definitions, played.steps())
 
-        for seed, played, right in in_parallel(played, range(first, end)):
+        for seed, found, right in in_parallel(played, range(first, end)):
             with self.subTest(list=seed):
-                steps = played.steps()
+                steps = found.steps()
                 self.expect_replies(steps, right)
-                self.assertEqual(sorted(played.clients), ["p", "s0", "s1", "s2", "s3"])
+                self.assertEqual(sorted(found.clients), ["p", "s0", "s1", "s2", "s3"])
                 for seat in range(4):
-                    self.expect_seat(seat, played.clients[f"s{seat}"], steps, right)
+                    self.expect_seat(seat, found.clients[f"s{seat}"], steps, right)
 
     def test_free_lists_on_genesis(self) -> None:
         self.expect_free(0, 200, 0, 44)

@@ -66,5 +66,6 @@ def examples() -> list[Example]:
     """In the document's order."""
     with open(PAGE, encoding="latin-1") as file:
         blocks = indented_blocks(file.read())
-    found = [example_of(block, printed) for block, printed in zip(blocks, [*blocks[1:], []])]
+    blocks.append([])
+    found = [example_of(block, printed) for block, printed in zip(blocks, blocks[1:])]
     return [example for example in found if example]

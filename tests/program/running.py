@@ -12,7 +12,7 @@ import termios
 import threading
 import unittest
 from subprocess import PIPE
-from typing import NamedTuple
+from typing import Any, NamedTuple
 
 ROOT = os.path.dirname(os.path.dirname(os.path.dirname(os.path.realpath(__file__))))
 
@@ -84,7 +84,7 @@ class ProgramTest(unittest.TestCase):
         with open(self.path(name), "rb") as file:
             return file.read()
 
-    def play_on(self, words: list[str], **streams: object) -> Played:
+    def play_on(self, words: list[str], **streams: Any) -> Played:
         """Runs the program on these words and standard streams, which are said as for `subprocess.run`. What goes to
         none of its pipes is empty."""
         ended = subprocess.run([PROGRAM, *words], cwd=self.folder, timeout=SECONDS, **streams)

@@ -7,7 +7,7 @@ from __future__ import annotations
 
 import os
 import re
-from typing import NamedTuple
+from typing import Any, NamedTuple
 
 from running import ROOT
 
@@ -53,7 +53,9 @@ class Scenario(NamedTuple):
 
 def answers_of(line: str) -> list[tuple[str, str, int]]:
     """The commands of a line, each with its reply and its stamp."""
-    command, reply, stamp = re.fullmatch(r"(.*?) = (.*?) @(\d+)", line).groups()
+    answer = re.fullmatch(r"(.*?) = (.*?) @(\d+)", line)
+    assert answer, line
+    command, reply, stamp = answer.groups()
     if not command.startswith("each "):
         return [(command, reply, int(stamp))]
     _, name, first, last = command.split(" ")
@@ -172,9 +174,10 @@ def read_constant(source: Source, known: dict[str, object], lists: dict[str, lis
     source.take_all(";")
 
 
-def read_file(path: str, known: dict[str, object]) -> dict[str, object]:
+def read_file(path: str, known: dict[str, Any]) -> dict[str, Any]:
     """All constants of a file that has nothing but imports and constants."""
-    source, found, lists = Source(path), dict(known), {}
+    source, found = Source(path), dict(known)
+    lists: dict[str, Any] = {}
     while source.next():
         if source.next() == "use":
             source.skip_past(";")

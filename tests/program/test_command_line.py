@@ -201,7 +201,9 @@ ASKED = [("help", "--help"), ("version", "--version")]
 ASKED += [(f"help {it}", f"{it} --help") for it in ("run", "audit", "tree", "show", "serve", "version")]
 
 # Words with which a scenario is read from the standard input, and words with which none is.
-READ = [([], True), (["run", "--scenario", "-"], True), (["run", "--scenario", "f"], False), (["--version"], False)]
+READ: list[tuple[list[str], bool]] = [
+    ([], True), (["run", "--scenario", "-"], True), (["run", "--scenario", "f"], False), (["--version"], False),
+]
 
 WAITING = "regchain: waits for a scenario, which ends with Ctrl-D\n"
 
@@ -241,8 +243,7 @@ class CommandLine(ProgramTest):
         for words, is_read in READ:
             for is_terminal in [False, True]:
                 with self.subTest(words=words, is_terminal=is_terminal):
-                    play = self.play_typed if is_terminal else self.play
-                    played = play(words, "client a\n")
+                    played = self.play_typed(words, "client a\n") if is_terminal else self.play(words, "client a\n")
                     self.assertEqual(played.err.startswith(WAITING), is_read and is_terminal)
                     if is_read:
                         told = WAITING if is_terminal else ""

@@ -4,6 +4,7 @@ from __future__ import annotations
 import os
 import re
 import subprocess
+import sys
 import tempfile
 import unittest
 import xml.etree.ElementTree as xml
@@ -23,18 +24,42 @@ def checked(folder: str) -> "subprocess.CompletedProcess[str]":
     return subprocess.run(words, capture_output=True, text=True, env={**os.environ, "PYTHONDONTWRITEBYTECODE": "1"})
 
 
+def of_felt(text: str) -> str:
+    """What bench/felt.py puts first into the results."""
+    sys.path.insert(0, os.path.join(ROOT, "bench"))
+    import felt
+
+    return felt.section(text)
+
+
 def extent(text: xml.Element) -> tuple[float, float, float]:
     """A text's base, and about where it begins and ends."""
     size = 14 if text.get("class") == "head" else 11.5
-    width, x = 0.55 * size * len("".join(text.itertext())), float(text.get("x"))
-    left = x - width * {"end": 1, "middle": 0.5}.get(text.get("text-anchor"), 0)
-    return float(text.get("y")), left, left + width
+    width, x = 0.55 * size * len("".join(text.itertext())), float(text.get("x", ""))
+    left = x - width * {"end": 1, "middle": 0.5}.get(text.get("text-anchor", ""), 0)
+    return float(text.get("y", "")), left, left + width
 
 
 class Drawings(unittest.TestCase):
     def test_results_are_drawn_as_they_stand(self) -> None:
         ran = checked(os.path.join(ROOT, "bench"))
         self.assertEqual((ran.returncode, ran.stderr), (0, ""))
+
+    def test_results_say_first_what_their_tables_have(self) -> None:
+        ran = subprocess.run([os.path.join(ROOT, "bench/felt.py"), "--check"], capture_output=True, text=True)
+        self.assertEqual((ran.returncode, ran.stderr), (0, ""))
+        told = of_felt(
+            "| read-coin-4 | 100,000 | | 0.080000 | 0.160000 | 0.50 | 1, met |\n"
+            "| keep-coins | a coin of one script byte, a node | 27 | 434 | 185 | 340, missed |\n"
+            "## Beside a real node\n"
+            "| payments | 200 | `litecoind` | 10.000 | 14.02 | 119 | 63 |\n| | | `regchain serve` | 8.000 | 9.22 | 234 | 0 |\n"
+        )
+        for line in (
+            "| the same, four seats (`read-coin-4`) | 5,000,000 | 2,500,000 |",
+            "| bytes a coin in a node (`keep-coins`) | 434 | 185 |",
+            "- blocks of 2,000 payments a second, by [whole programs](#beside-a-real-node): `litecoind` 20, `regchain serve` 25.",
+        ):
+            self.assertIn(line, told.splitlines())
 
     def test_a_picture_of_other_results_is_refused(self) -> None:
         with tempfile.TemporaryDirectory() as room:
@@ -52,7 +77,7 @@ class Drawings(unittest.TestCase):
         self.assertGreater(len(rows), 60)
         texts = list(xml.fromstring(read("bench/results.svg")).iter(f"{SVG}text"))
         drawn = [
-            (text.text.strip(), text[0].text, ratio.text)
+            ((text.text or "").strip(), text[0].text, ratio.text)
             for text, ratio in zip(texts, texts[1:])
             if text.get("text-anchor") == "end"
         ]
@@ -69,10 +94,10 @@ class Drawings(unittest.TestCase):
         for name in PICTURES:
             with self.subTest(name):
                 picture = xml.fromstring(read(name))
-                style = picture.find(f"{SVG}style").text
-                light, _, dark = style.partition("@media (prefers-color-scheme: dark)")
-                _, _, width, height = picture.get("viewBox").split()
+                light, _, dark = picture.findtext(f"{SVG}style", "").partition("@media (prefers-color-scheme: dark)")
+                _, _, width, height = picture.get("viewBox", "").split()
                 page = picture.find(f"{SVG}rect")
+                assert page is not None
                 self.assertEqual((page.get("class"), page.get("width"), page.get("height")), ("page", width, height))
                 for rules in (light, dark):
                     self.assertRegex(rules, r"\.page \{ fill: #")

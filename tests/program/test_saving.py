@@ -187,11 +187,13 @@ class Saving(ProgramTest):
             for case in [LONG, NEW, LONG, OLD]:
                 words = [running.PROGRAM, *self.words(case, "saved")]
                 run = subprocess.Popen(words, cwd=self.folder, stdin=PIPE, stdout=DEVNULL, stderr=PIPE)
+                assert run.stdin
                 run.stdin.write(case[1].encode())
                 run.stdin.close()
                 runs.append(run)
             ended = []
             for run in runs:
+                assert run.stderr
                 ended.append((run.wait(SECONDS), run.stderr.read()))
                 run.stderr.close()
             fault = "cannot write saved/journal.txt"
@@ -212,6 +214,7 @@ class Saving(ProgramTest):
         for _ in range(40):
             words = [running.PROGRAM, *self.words(LONG, "saved")]
             run = subprocess.Popen(words, cwd=self.folder, stdin=PIPE, stdout=DEVNULL, stderr=DEVNULL)
+            assert run.stdin
             run.stdin.write(LONG[1].encode())
             run.stdin.close()
             time.sleep(whole * drawn.uniform(0.4, 1.1))

@@ -1,8 +1,6 @@
 """What the scripts at the top say first, and how they end: without the kit, with another kit, and by a signal; and what those that
 compare documents and code notice."""
 
-import importlib.machinery
-import importlib.util
 import io
 import os
 import re
@@ -13,13 +11,12 @@ import tempfile
 import time
 import unittest
 from contextlib import redirect_stderr, redirect_stdout
-from typing import Any
 
 ROOT = os.path.dirname(os.path.dirname(os.path.dirname(os.path.realpath(__file__))))
 sys.path.insert(0, f"{ROOT}/tools")
-import book
 import progress
 import style
+from sources import believe, book, definitions, repository, trace
 
 
 def tell(script: str, path: str) -> "tuple[int, str]":
@@ -114,54 +111,14 @@ class Progress(unittest.TestCase):
 
 
 class Style(unittest.TestCase):
-    """A function's measures, and that one above its limit fails."""
-
-    TEXT = """
-impl Core {
-    /// A method.
-    pub(crate) fn step<B: Base, S: Fn(u8, u8) -> u8>(
-        &mut self,
-        alloc: Global,
-        pairs: &[(u8, Vec<u8>)],
-        f: fn(u8) -> u8,
-    ) -> Result<(Reply, Changes), S::Stop>
-        requires coins { B.coins base.now ≡ coins_of self.old }
-        // A comment that is no clause, and longer than the clauses are, which counts for nothing in their width here.
-        ensures outcome { IfOk result (λ done.
-            (done.0 ≡ done.1)) }
-    {
-        one();
-        two(|x| {
-            x
-        });
-    }
-
-    fn short(self) {}
-
-    fn of_trait(&self, n: u8) -> u8
-        ensures { result ≡ n };
-}
-
-pub fn plain(n: u8) -> u8 {
-    n
-}
-"""
-
-    def test_what_is_measured(self) -> None:
-        found = {head[2]: style.measured(self.TEXT, head.start(), head[1]) for head in style.HEAD.finditer(self.TEXT)}
-        self.assertEqual(found, {
-            "step": {"parameters": 3, "clauses": 2, "width": 63, "lines": 4},
-            "short": {"parameters": 0, "clauses": 0, "width": 0, "lines": 0},
-            "of_trait": {"parameters": 1, "clauses": 1, "width": 31, "lines": 0},
-            "plain": {"parameters": 1, "clauses": 0, "width": 0, "lines": 1},
-        })
+    """That a function above its limit fails; tools/tests has the measures."""
 
     def test_what_is_above_fails(self) -> None:
         room = tempfile.TemporaryDirectory()
         self.addCleanup(room.cleanup)
-        self.addCleanup(setattr, style, "ROOT", style.ROOT)
+        self.addCleanup(setattr, repository, "ROOT", repository.ROOT)
         self.addCleanup(setattr, style, "LIST", style.LIST)
-        style.ROOT, style.LIST = room.name, f"{room.name}/style.txt"
+        repository.ROOT, style.LIST = room.name, f"{room.name}/style.txt"
         os.makedirs(f"{room.name}/crates/a/src")
         names = ", ".join(f"n{n}: u8" for n in range(7))
         with open(f"{room.name}/crates/a/src/lib.rt", "w", encoding="utf-8") as file:
@@ -175,16 +132,6 @@ pub fn plain(n: u8) -> u8 {
             with self.subTest(rows), redirect_stdout(io.StringIO()), redirect_stderr(io.StringIO()):
                 sys.argv = ["style.py"]
                 self.assertEqual(style.main(), status)
-
-
-def script(name: str) -> Any:
-    """A script of docs/ as a module."""
-    loader = importlib.machinery.SourceFileLoader(name, f"{ROOT}/docs/{name}")
-    spec = importlib.util.spec_from_loader(name, loader)
-    assert spec is not None
-    module = importlib.util.module_from_spec(spec)
-    loader.exec_module(module)
-    return module
 
 
 class Book(unittest.TestCase):
@@ -279,30 +226,27 @@ Fits part = length part.bytes ≤ most
 ## By standard
 """
 
-    def setUp(self) -> None:
-        self.believe = script("believe")
-
     def begin(self) -> None:
         """Makes the small repository the one that is read."""
         room = tempfile.TemporaryDirectory()
         self.addCleanup(room.cleanup)
-        self.addCleanup(setattr, book, "ROOT", book.ROOT)
-        book.ROOT = room.name
+        self.addCleanup(setattr, repository, "ROOT", repository.ROOT)
+        repository.ROOT = room.name
         for path, text in self.FILES.items():
             self.put(path, text)
 
     def put(self, path: str, text: str) -> None:
-        os.makedirs(os.path.dirname(f"{book.ROOT}/{path}"), exist_ok=True)
-        with open(f"{book.ROOT}/{path}", "w", encoding="utf-8") as file:
+        os.makedirs(os.path.dirname(f"{repository.ROOT}/{path}"), exist_ok=True)
+        with open(f"{repository.ROOT}/{path}", "w", encoding="utf-8") as file:
             file.write(text)
 
     def faults(self) -> "list[str]":
-        order = list(self.believe.crates())
-        return list(self.believe.book_faults(order, self.believe.read_specs(order)))
+        order = repository.crates()
+        return list(believe.book_faults(order, definitions.read_specs(order)))
 
     def page(self) -> str:
-        order = list(self.believe.crates())
-        return str(self.believe.book_of(order, self.believe.read_specs(order), "node"))
+        order = repository.crates()
+        return believe.book_of(order, definitions.read_specs(order), "node")
 
     def test_what_is_shown_and_in_which_order(self) -> None:
         self.begin()
@@ -346,14 +290,14 @@ Fits part = length part.bytes ≤ most
         with open(f"{ROOT}/docs/BOOK.md", encoding="utf-8") as file:
             page = file.read()
         shown = self.bare(page)
-        specs = self.believe.read_specs(list(self.believe.crates()))
-        names = self.believe.door_names(specs, "node")
+        specs = definitions.read_specs(repository.crates())
+        names = believe.door_names(specs, "node")
         self.assertGreater(len(names), 400)
         for path, name in names:
             with self.subTest(name):
                 spec, at = specs[path], f"crates/{'/'.join(path)}.antt"
                 self.assertIn(f"[`{name}`](../{at}#L{spec.heads[name] + 1})", page)
-                head = book.read(at).split("\n")[spec.heads[name]]
+                head = repository.read(at).split("\n")[spec.heads[name]]
                 self.assertIn(self.bare("\n".join([head, *spec.defs[name].split("\n")[1:]])), shown)
 
     def bare(self, text: str) -> str:
@@ -362,8 +306,8 @@ Fits part = length part.bytes ≤ most
         return "\n".join(line for line in lines if line)
 
     def test_no_link_of_the_page_is_dead(self) -> None:
-        page = book.read("docs/BOOK.md")
-        places = {name: self.places(book.read(f"docs/{name}.md")) for name in ("BOOK", "RULES", "MAP")}
+        page = repository.read("docs/BOOK.md")
+        places = {name: self.places(repository.read(f"docs/{name}.md")) for name in ("BOOK", "RULES", "MAP")}
         links = re.findall(r"\]\(([^)]+)\)", re.sub(r"(?ms)^```.*?^```$", "", page))
         self.assertGreater(len(links), 500)
         for link in links:
@@ -379,8 +323,7 @@ Fits part = length part.bytes ≤ most
         return {book.slug(it) for it in re.findall(r"(?m)^#+ (.*)$", page)} | set(re.findall(r'<a id="([^"]+)">', page))
 
     def test_links_to_definitions(self) -> None:
-        trace = script("trace")
-        specs = self.believe.read_specs(list(self.believe.crates()))
+        specs = definitions.read_specs(repository.crates())
         line = specs["txn", "specs", "Coinbase"].heads["is_null"] + 1
         path = "crates/txn/specs/Coinbase.antt"
         whole = f"Defined as [`is_null`](../{path}#L{line}) in `{path}`, by [`{path}`](../{path})."

@@ -3,9 +3,10 @@ from __future__ import annotations
 
 import re
 import xml.etree.ElementTree as xml
+from subprocess import PIPE
 
 from blocks import FIRST, FIRST_HEAD, FIRST_ID, child_of_genesis
-from running import PIPE, Played, ProgramTest, Terminal, lines
+from running import Played, ProgramTest, Terminal, lines
 
 # A branch that fails: x2 pays too much, which is found when x3 makes it the highest.
 FAILING = lines(
@@ -119,8 +120,8 @@ class Tree(ProgramTest):
 
     def pieces(self, picture: xml.Element) -> list[tuple[str, str]]:
         """The class and the title of each block or run of a picture."""
-        groups = [group for group in picture.iter(f"{SVG}g") if group.find(f"{SVG}title") is not None]
-        return [(group.get("class"), group.find(f"{SVG}title").text) for group in groups]
+        found = [(group.get("class", ""), group.find(f"{SVG}title")) for group in picture.iter(f"{SVG}g")]
+        return [(kind, title.text or "") for kind, title in found if title is not None]
 
     def test_of_a_scenario(self) -> None:
         self.expect_tree(["tree", "--scenario", "-"], FAILING, FAILING_TREE)
@@ -142,7 +143,8 @@ class Tree(ProgramTest):
         ]:
             self.expect_tree([*words, *more], LONG, tree)
         told = "no height 104"
-        for more in ([], ["--svg", "tree.svg"]):
+        pictures: list[list[str]] = [[], ["--svg", "tree.svg"]]
+        for more in pictures:
             self.expect_fault([*words, "--from", "104", *more], LONG, f"regchain: {told}\n{told}: the highest block is at 103\n")
         self.assertFalse(self.exists("tree.svg"))
 
@@ -166,9 +168,10 @@ class Tree(ProgramTest):
             out = self.play([*tree, "--color", "always"], text).out
             self.assertEqual(re.sub("\x1b\\[\\d+m", "", out), self.utf8(plain))
             for line in out.splitlines():
-                word = re.search(r"\) (?:\x1b\[\d+m)?([a-z-]+)", line)[1]
+                word = re.findall(r"\) (?:\x1b\[\d+m)?([a-z-]+)", line)[0]
                 self.assertEqual(re.findall("\x1b\\[(\\d+)m", line), [str(COLORS[word]), "0"] * 2)
-        for words, is_colored in [([], True), (["--color", "never"], False), (["--color", "auto"], True)]:
+        asked: list[tuple[list[str], bool]] = [([], True), (["--color", "never"], False), (["--color", "auto"], True)]
+        for words, is_colored in asked:
             with Terminal() as terminal:
                 self.play_on([*tree, *words], input=FAILING.encode(), stdout=terminal.side, stderr=PIPE)
                 self.assertEqual("\x1b[" in terminal.shown(), is_colored)

@@ -34,6 +34,26 @@ class Unproved(unittest.TestCase):
             unproved.exported(text),
             "define noundef i32 @ffi_open(ptr %a) #0 {\n  call i32 @ffi_open(ptr %a)\n}\ndefine internal i32 @main() #0 {\n")
 
+    def test_another_processor(self) -> None:
+        """Each function names one, which counts more than a flag of clang's; nothing else changes."""
+        text = 'define i32 @f() #0 {\n}\nattributes #0 = { nounwind "frame-pointer"="all" "target-cpu"="x86-64" }\n'
+        with tempfile.TemporaryDirectory() as room:
+            with open(unproved.of_v3(text, f"{room}/v3.ll"), encoding="utf-8") as file:
+                self.assertEqual(file.read(), text.replace('"x86-64"', '"x86-64-v3"'))
+
+    def test_the_names_of_processors(self) -> None:
+        def named(name: str) -> "subprocess.CompletedProcess[str]":
+            words = ["bash", "-c", f'source {ROOT}/tools/needs; cpu_named "$1"', "bash", name]
+            return subprocess.run(words, stdout=subprocess.PIPE, stderr=subprocess.PIPE, text=True)
+
+        self.assertEqual((named("x86-64-v3").stdout, named("x86-64-v3").returncode), ("x86-64-v3\n", 0))
+        native = named("native")
+        self.assertEqual((native.stdout == "", native.returncode), ("only the default is built" in native.stderr, 0))
+        for script in (f"{ROOT}/build", f"{ROOT}/ffi/build"):
+            refused = subprocess.run([script, "--cpu=x86-64-v4"], stdout=subprocess.PIPE, stderr=subprocess.PIPE, text=True)
+            self.assertEqual((refused.returncode, refused.stdout), (2, ""))
+            self.assertIn("--cpu takes x86-64-v3 or native", refused.stderr)
+
     def test_install_wants_the_word(self) -> None:
         with tempfile.TemporaryDirectory() as room:
             shutil.copy(f"{ROOT}/install", room)

@@ -17,7 +17,7 @@ def processor_seconds(words: list[str], text: str) -> float:
         _, status, used = os.wait4(run.pid, 0)
         run.returncode = os.waitstatus_to_exitcode(status)
     assert run.returncode == 0
-    return used.ru_utime + used.ru_stime
+    return float(used.ru_utime + used.ru_stime)
 
 
 class Workers(unittest.TestCase):

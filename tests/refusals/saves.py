@@ -1,6 +1,8 @@
 """A run that saves over what an earlier one saved, ended or failing at each call that changes files: the folder then
 holds what it held before or what the run saves, whole, by the audit and by its bytes; and the next run saves there."""
 import os, shutil, signal, subprocess
+from concurrent.futures import Executor
+from typing import Any, List, Tuple
 
 FILES = ["journal.txt", "blocks.blk", "table.txt", "heights.txt"]
 SECONDS = 20
@@ -12,9 +14,9 @@ NEXT = ("2,2,2,2", b"block d1 genesis\nverdict cc 3006 genesis.cb 0 51 1\nclient
 
 
 class Saves:
-    def __init__(self, program, shim, room, faults):
+    def __init__(self, program: str, shim: str, room: str, faults: Any) -> None:
         self.program, self.shim, self.room, self.faults = program, shim, room, faults
-        self.sets = []
+        self.sets: List[List[bytes]] = []
         for number, case in enumerate((OLD, NEW, NEXT)):
             folder = f"{room}/set{number}"
             os.mkdir(folder)
@@ -22,13 +24,13 @@ class Saves:
                 faults.add("a run that saves: fails with nothing wrong")
             self.sets.append(self.bytes_of(folder))
 
-    def save(self, case, folder, **env):
+    def save(self, case: Tuple[str, bytes], folder: str, **env: str) -> "subprocess.CompletedProcess[bytes]":
         heights, text = case
         words = [self.program, "run", "--scenario", "-", "--heights", heights, "--save", folder]
         env = {"LD_PRELOAD": self.shim, **env} if env else {}
         return subprocess.run(words, input=text, env=env, capture_output=True, timeout=SECONDS)
 
-    def bytes_of(self, folder):
+    def bytes_of(self, folder: str) -> List[bytes]:
         """The files that count: where journal.txt.new stands those under their names; else each under `.new`, if it is
         there."""
         found = []
@@ -40,7 +42,7 @@ class Saves:
                 found.append(file.read())
         return found
 
-    def once(self, how, at, begun):
+    def once(self, how: str, at: int, begun: int) -> Tuple[bool, bool]:
         """A run of which this call is its last, or fails; over a folder as another run left it whose call of the number
         `begun` was its last, if not 0. Whether it came so far."""
         folder = f"{self.room}/{how}{at}-{begun}"
@@ -69,7 +71,7 @@ class Saves:
         return ran.returncode == -signal.SIGKILL, held == self.sets[1]
 
 
-def play(program, room, faults, pool):
+def play(program: str, room: str, faults: Any, pool: Executor) -> None:
     """All of it; how many calls there are, and after how many of them what is saved counts."""
     shim, here = f"{room}/files.so", f"{room}/saves"
     os.mkdir(here)

@@ -39,7 +39,9 @@ class ReplicaTest(unittest.TestCase):
         return self.url
 
     def replica(self, name: str, **more: Any) -> Replica:
-        opened = Replica(more.pop("url", None) or self.url, name=name, **{"program": running.PROGRAM, "timeout": 60, "catch_up": 60, **more})
+        url = more.pop("url", None) or self.url
+        given: dict[str, Any] = {"program": running.PROGRAM, "timeout": 60, "catch_up": 60, **more}
+        opened = Replica(url, name=name, **given)
         self.addCleanup(opened.close)
         return opened
 

@@ -5,6 +5,7 @@ import hashlib
 import os
 import unittest
 import uuid
+from typing import Any
 
 import psycopg
 from blocks import NOW, Maker, block_id, signed, spend, with_script
@@ -24,7 +25,7 @@ class Counted:
         self.asked: list[bytes] = []
         self.lies = lies
 
-    def __call__(self, lines):
+    def __call__(self, lines: Any) -> Any:
         self.asked += lines
         return [verdict is not self.lies for verdict in secp256k1(lines)]
 
@@ -41,12 +42,12 @@ class ByNeed(ReplicaTest):
         self.blocks = self.maker.chain(BLOCKS)
         self.tip = block_id(self.blocks[-1])
 
-    def paid(self, place: int, secret: int = 1):
+    def paid(self, place: int, secret: int = 1) -> Any:
         """A transaction that spends a coinbase, signed by this secret."""
         tx = spend(self.maker.coinbases[block_id(self.blocks[place])].id, 0, COIN, b"")._replace(outputs=[Output(COIN, self.script)])
         return with_script(tx, 0, *signed(self.secp, [bytes([secret]) * 32], tx, 0, self.script), self.key)
 
-    def mined(self, *replicas) -> None:
+    def mined(self, *replicas: Any) -> None:
         """Puts the chain into the log, as a replica that is gone."""
         with psycopg.connect(self.url, autocommit=True) as connection:
             rows = [(place, uuid.uuid4(), block, NOW) for place, block in enumerate(self.blocks, 1)]

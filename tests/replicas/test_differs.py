@@ -2,6 +2,7 @@
 from __future__ import annotations
 
 import unittest
+from typing import Callable
 
 from cases import NOW, ReplicaTest
 from wakotehu import errors
@@ -17,7 +18,8 @@ class Planted(ReplicaTest):
         for block in chain[:3]:
             self.assertEqual(honest.seat(0).submit(block, NOW).value, "accepted")
         self.until(lambda: planted._state.error is not None)
-        for call in (planted.status, planted.seat(0).getbestblockhash, lambda: planted.seat(0).submit(chain[3], NOW)):
+        calls: list[Callable[[], object]] = [planted.status, planted.seat(0).getbestblockhash, lambda: planted.seat(0).submit(chain[3], NOW)]
+        for call in calls:
             with self.assertRaises(errors.ReplicaDiffers) as caught:
                 call()
         differs = caught.exception

@@ -9,6 +9,7 @@ import time
 import unittest
 import unittest.mock
 import uuid
+from typing import Any
 
 import psycopg
 import running
@@ -92,7 +93,7 @@ class Worked(ReplicaTest):
         """Most commits are refused, or lose the connection before they are sent or behind them: each command is there once."""
         draw, append = random.Random(3), Log.append
 
-        def cut(log: Log, first, commands, told):
+        def cut(log: Log, first: Any, commands: Any, told: Any) -> Any:
             kind = draw.randrange(6)
             if kind == 0:
                 raise Lost("before it was sent")
@@ -106,7 +107,7 @@ class Worked(ReplicaTest):
         replicas = [self.replica(name) for name in ("one", "two")]
         marked, faults = [], []
 
-        def run(replica, number: int) -> None:
+        def run(replica: Any, number: int) -> None:
             try:
                 for n in range(20):
                     token = uuid.uuid4()
@@ -137,7 +138,7 @@ class Worked(ReplicaTest):
         one, append, calls = self.replica("one"), Log.append, []
         taken, take_all = threading.Event(), Follower._take_all
 
-        def cut(log: Log, first, commands, told):
+        def cut(log: Log, first: Any, commands: Any, told: Any) -> Any:
             calls.append(first)
             if len(calls) == 2:
                 raise Refused("no room")
@@ -147,7 +148,7 @@ class Worked(ReplicaTest):
             taken.set()
             return answered
 
-        def late(follower: Follower, rows) -> None:
+        def late(follower: Follower, rows: Any) -> None:
             # So that nobody hears of the row from the log before it is tried again.
             taken.wait(30)
             take_all(follower, rows)
@@ -161,7 +162,7 @@ class Worked(ReplicaTest):
         """A connection is lost amid a commit, which goes in only after the database said to try again: the row is there once."""
         one, append, calls, late = self.replica("one"), Log.append, [], []
 
-        def cut(log: Log, first, commands, told):
+        def cut(log: Log, first: Any, commands: Any, told: Any) -> Any:
             calls.append(first)
             if len(calls) == 1:
                 late.append((first, commands))
@@ -215,7 +216,8 @@ class Worked(ReplicaTest):
             # Nothing else is under way then.
             one.seat(0).try_mark("precious", GENESIS.id)
             self.until(lambda: self.database.run(self.url, "SELECT count(*) FROM wakotehu.replies") == [(1,)])
-            stopped = one._threads[number]._log._connection.info.backend_pid
+            threads: Any = one._threads
+            stopped = threads[number]._log._connection.info.backend_pid
             os.kill(stopped, signal.SIGSTOP)
             try:
                 self.assertEqual(one.seat(0).try_mark("precious", GENESIS.id).at, 2)

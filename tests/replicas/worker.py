@@ -179,7 +179,7 @@ def slow_down(seconds: float) -> None:
         time.sleep(seconds * len(rows))
         take_all(self, rows)
 
-    Follower._take_all = slowly  # type: ignore[method-assign]
+    Follower._take_all = slowly  # type: ignore
 
 
 def main() -> int:

@@ -23,14 +23,16 @@ class Served:
         self.process = subprocess.Popen(
             [running.PROGRAM, "serve", *words], cwd=folder, stdin=PIPE, stdout=PIPE, stderr=PIPE, **how
         )
+        assert self.process.stdin and self.process.stdout and self.process.stderr
+        self.stdin, self.stdout, self.stderr = self.process.stdin, self.process.stdout, self.process.stderr
         self.lock = threading.Lock()
         self.count = 0
-        self.answers: dict[int, queue.SimpleQueue] = collections.defaultdict(queue.SimpleQueue)
+        self.answers: dict[int | None, queue.SimpleQueue[dict[str, Any]]] = collections.defaultdict(queue.SimpleQueue)
         self.reader = threading.Thread(target=self.read_all, daemon=True)
         self.reader.start()
 
     def read_all(self) -> None:
-        for line in self.process.stdout:
+        for line in self.stdout:
             answer = json.loads(line)
             self.answers[answer["id"]].put(answer)
 
@@ -46,11 +48,11 @@ class Served:
             for number in numbers:
                 self.answers[number] = queue.SimpleQueue()
             lines = [request(number, method, **params) for number, (method, params) in zip(numbers, requests)]
-            self.process.stdin.write(b"".join(lines))
-            self.process.stdin.flush()
+            self.stdin.write(b"".join(lines))
+            self.stdin.flush()
         return numbers
 
-    def answer_of(self, number: int) -> dict[str, Any]:
+    def answer_of(self, number: int | None) -> dict[str, Any]:
         answer = self.answers[number].get(timeout=running.SECONDS)
         del self.answers[number]
         return answer
@@ -59,7 +61,7 @@ class Served:
         """The whole answer to a request."""
         return self.answer_of(self.begin(method, **params))
 
-    def ask(self, method: str, **params: Any) -> dict[str, Any]:
+    def ask(self, method: str, **params: Any) -> Any:
         """The result of a request."""
         answer = self.answer(method, **params)
         if "result" not in answer:
@@ -69,22 +71,22 @@ class Served:
     def end(self) -> tuple[int, str]:
         """Ends the input: the status, and what was written on the standard error."""
         try:
-            self.process.stdin.close()
+            self.stdin.close()
         except BrokenPipeError:
             pass
         late = threading.Timer(running.SECONDS, self.process.kill)
         late.start()
-        err = self.process.stderr.read().decode("latin-1")
+        err = self.stderr.read().decode("latin-1")
         status = self.process.wait(running.SECONDS)
         late.cancel()
         self.reader.join(running.SECONDS)
-        self.process.stdout.close()
-        self.process.stderr.close()
+        self.stdout.close()
+        self.stderr.close()
         return status, err
 
     def kill(self) -> None:
         """Ends it at once, if it hasn't ended."""
-        if not self.process.stdout.closed:
+        if not self.stdout.closed:
             self.process.kill()
             self.end()
 
@@ -148,7 +150,8 @@ class Names:
         self.ids: dict[str, str] = {}
         self.data: dict[str, bytes] = {}
         self.names: dict[str, str] = {}
-        for names in (["genesis"], []):
+        asked: list[list[str]] = [["genesis"], []]
+        for names in asked:
             shown = subprocess.run(
                 [running.PROGRAM, "show", "--scenario", "-", *names],
                 cwd=folder, input=definitions.encode(), capture_output=True, timeout=running.SECONDS, check=True,
@@ -204,7 +207,8 @@ class Names:
             coinbase = " coinbase" if answer["coinbase"] else ""
             script = answer["script"] or "-"
             return f"{answer['value']} {script} height {answer['height']}{coinbase} conf {answer['confirmations']}"
-        return answer
+        told: str = answer
+        return told
 
 
 class Command(NamedTuple):

@@ -6,6 +6,7 @@ import os
 import subprocess
 import time
 from subprocess import PIPE
+from typing import Any
 
 import running
 from running import ProgramTest
@@ -23,6 +24,7 @@ class Limits(ProgramTest):
         """The program stops reading, and goes on when its answers are read: each request has one, in order."""
         served = subprocess.Popen([running.PROGRAM, "serve", "--seats", "1"], cwd=self.folder, stdin=PIPE, stdout=PIPE)
         self.addCleanup(served.kill)
+        assert served.stdin and served.stdout
         number = served.stdin.fileno()
         fcntl.fcntl(number, fcntl.F_SETFL, os.O_NONBLOCK)
         lines = b"".join(request(n, "getbestblockhash", seat=0) for n in range(20_000))
@@ -86,7 +88,7 @@ class Limits(ProgramTest):
         self.addCleanup(served.kill)
         for front, again in [(b"[1", b",1"), (b"", b"["), (b'{"a":1', b',"a":1'), (b'["', b'","'), (b"", b'{"a":'), (b"", b",")]:
             with self.subTest(again=again):
-                served.process.stdin.write(front + again * (69_000_000 // len(again)) + b"\n")
+                served.stdin.write(front + again * (69_000_000 // len(again)) + b"\n")
                 self.assertEqual(served.answer_of(None)["error"], TOO_MANY)
                 self.assertEqual(served.ask("note", seat=0), {"at": 0})
         self.assertLess(most_resident(served.process.pid), 16_384)
@@ -172,7 +174,7 @@ class HistoryMemory(ProgramTest):
         self.addCleanup(served.kill)
         return served
 
-    def submit(self, served: Served, data: bytes, seat: int = 0) -> dict:
+    def submit(self, served: Served, data: bytes, seat: int = 0) -> dict[str, Any]:
         return served.answer("submit", seat=seat, block=data.hex(), now=NOW)
 
     def refused_block(self) -> bytes:

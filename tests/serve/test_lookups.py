@@ -2,6 +2,7 @@
 from __future__ import annotations
 
 import time
+from typing import Any
 
 from blocks import GENESIS as GENESIS_BYTES
 from running import ProgramTest
@@ -85,7 +86,7 @@ class Lookups(ProgramTest):
         for name in ("b1", "p2", "q2", "q3"):
             self.submit(name)
         self.served.ask("told", seat=1, **{"from": 0})
-        coins = [
+        coins: list[dict[str, Any]] = [
             {"txid": self.names.transaction(f"{name}.cb"), "n": 0, "value": SUBSIDY, "script": "51", "height": height,
              "coinbase": True}
             for name, height in (("b1", 1), ("q2", 2), ("q3", 3))

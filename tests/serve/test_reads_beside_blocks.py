@@ -39,7 +39,7 @@ class Reads(ProgramTest):
         for name in [*(f"c{height}" for height in range(1, 101)), "fan"]:
             self.submit(served, names, name)
         spans: list[tuple[float, float]] = []
-        writer = threading.Thread(target=self.write, args=(served, names, blocks, spans))
+        writer = threading.Thread(target=self.submit_all, args=(served, names, blocks, spans))
         writer.start()
         txid, last = names.ids["f"], 0
         read: list[tuple[float, float]] = []
@@ -65,7 +65,7 @@ class Reads(ProgramTest):
         result = served.ask("submit", seat=0, block=names.data[name].hex(), now=NOW)
         self.assertEqual(result["answer"], "accepted")
 
-    def write(self, served: Served, names: Names, blocks: int, spans: list[tuple[float, float]]) -> None:
+    def submit_all(self, served: Served, names: Names, blocks: int, spans: list[tuple[float, float]]) -> None:
         for number in range(blocks):
             begun = time.perf_counter()
             self.submit(served, names, f"p{number}")

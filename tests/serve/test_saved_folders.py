@@ -24,7 +24,8 @@ class Folders(ProgramTest):
         self.make_folder("saved")
 
     def submit(self, served: Served, name: str, seat: int) -> str:
-        return served.ask("submit", seat=seat, block=self.names.data[name].hex(), now=NOW)["answer"]
+        answer: str = served.ask("submit", seat=seat, block=self.names.data[name].hex(), now=NOW)["answer"]
+        return answer
 
     def files(self, folder: str) -> list[bytes]:
         return [self.read_bytes(f"{folder}/{name}") for name in FILES]
@@ -146,6 +147,7 @@ class Folders(ProgramTest):
         served = subprocess.Popen(
             [running.PROGRAM, "serve", "--save", "saved"], cwd=self.folder, stdin=PIPE, stdout=PIPE, stderr=PIPE
         )
+        assert served.stdout
         served.stdout.close()
         _, err = served.communicate(request(1, "submit", seat=0, block=self.names.data["b1"].hex(), now=NOW), running.SECONDS)
         self.assertEqual(err, b"regchain: cannot write -\ncannot write -: Broken pipe\n")

@@ -21,6 +21,7 @@ class Document(ProgramTest):
         self.assertEqual((len(asked), len(told), len(lines)), (10, 10, 20))
         served = subprocess.Popen([running.PROGRAM, "serve"], cwd=self.folder, stdin=PIPE, stdout=PIPE, stderr=PIPE)
         self.addCleanup(served.communicate)
+        assert served.stdin and served.stdout
         for line, answer in zip(asked, told):
             served.stdin.write(line.encode() + b"\n")
             served.stdin.flush()

@@ -45,7 +45,8 @@ class ByNeed(ProgramTest):
         valid, invalid = [it for it in lines if it in table], [it for it in lines if it not in table]
         told = served.ask("learn", seat=seat, valid="\n".join(valid), invalid="\n".join(invalid))
         self.assertEqual(told["answer"], "done")
-        return told["at"]
+        at: int = told["at"]
+        return at
 
     def asked(self, served: Served, seat: int, method: str, params: dict[str, Any], table: list[str]) -> tuple[dict[str, Any], int]:
         """The answer to a call that is made until it wants nothing, and how many verdicts were told for it."""
@@ -138,11 +139,12 @@ class ByNeed(ProgramTest):
 
     def test_what_is_no_verdict(self) -> None:
         served = self.served()
-        for params, name in (
+        cases: list[tuple[dict[str, Any], str]] = [
             ({"valid": ""}, "invalid"), ({"invalid": ""}, "valid"), ({"valid": 1, "invalid": ""}, "valid"),
             ({"valid": "", "invalid": [STRAY]}, "invalid"), ({"valid": STRAY.upper(), "invalid": ""}, "valid"),
             ({"valid": "", "invalid": f"{STRAY}\n{STRAY} 00"}, "invalid"), ({"valid": STRAY[:-1], "invalid": ""}, "valid"),
-        ):  # fmt: skip
+        ]  # fmt: skip
+        for params, name in cases:
             error = served.answer("learn", seat=0, **params)["error"]
             self.assertEqual(error, {"code": -32602, "message": "invalid params", "data": name})
         self.assertEqual(served.ask("note", seat=0), {"at": 0})
@@ -207,7 +209,8 @@ class ByNeed(ProgramTest):
         journal = [line.split(" ", 2)[2] for line in self.read("kept/journal.txt").splitlines()]
         self.assertEqual(journal, [line.split(" ", 2)[2] for line in self.read("saved/journal.txt").splitlines()])
         before = [self.read_bytes(f"kept/{name}") for name in FILES]
-        for words in (["--by-need"], []):
+        settings: list[list[str]] = [["--by-need"], []]
+        for words in settings:
             stood = self.exists("kept/invalid.txt")
             ended = play(self.folder, b"", "--load", "kept", "--save", "kept", *words)
             self.assertEqual((ended.status, ended.err), (0, ""))

@@ -46,7 +46,7 @@ spends_at_most false inputs = omega (arith, length-map inputs (λ (i : TxIn). i.
 abbrev pub Fits : Tx → List Coin → Type 0
 Fits tx coins = length coins ≤ length tx.inputs
 
-fits : (m : Coins) (tx : Tx) (n : ℕ) → length (spent_in (turn tx m n)) ≤ length tx.inputs
+pub fits : (m : Coins) (tx : Tx) (n : ℕ) → length (spent_in (turn tx m n)) ≤ length tx.inputs
 unfolding spent_coins
 fits m tx n = omega (arith, coins_at_most m (spends tx), spends_at_most (is_coinbase tx) tx.inputs)
 

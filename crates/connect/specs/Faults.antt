@@ -68,14 +68,20 @@ pays_too_much turn = not (is_coinbase turn.tx) && int_lt (sum_of_values (spent_i
 abbrev pub is_locked : Setting → Turn → Bool
 is_locked s turn = s.rules.csv && not (are_met turn.tx (map (lock_start s.medians) (spent_in turn)) s.height s.cutoff)
 
+-- what the inputs of a transaction break (`CheckTxInputs`)
+abbrev pub input_rules : Setting → Turn → Rules
+input_rules s turn =
+    (is_missing turn, InputsMissingOrSpent)
+    ∷ (spends_immature s turn, PrematureCoinbaseSpend)
+    ∷ (pays_too_much turn, InputsBelowOutputs)
+    ∷ []
+
 -- of a transaction in its turn
 unfoldable pub turn_rules : Setting → Turn → Rules
 turn_rules s turn =
     (nat_lt max_block_sigops (plain_count turn), TooManySigops)
-    ∷ (is_missing turn, InputsMissingOrSpent)
-    ∷ (spends_immature s turn, PrematureCoinbaseSpend)
-    ∷ (pays_too_much turn, InputsBelowOutputs)
-    ∷ (is_locked s turn, NonFinal)
+    ∷ input_rules s turn
+    ++ (is_locked s turn, NonFinal)
     ∷ (nat_lt max_block_sigops (full_count turn), TooManySigops)
     ∷ (overwrites turn.coins turn.tx, OverwritesCoin)
     ∷ []

@@ -212,7 +212,7 @@ fn test_locks(
 }
 
 /// Whether a coinbase's coin is spent too early.
-fn has_immature(coins: &[Coin], height: u32) -> bool
+pub(crate) fn has_immature(coins: &[Coin], height: u32) -> bool
     ensures { result ≡ list_any (is_immature height) coins.now }
 {
     coins.iter().any(|coin| is_immature(coin, height))
@@ -225,7 +225,7 @@ fn is_immature(coin: &Coin, height: u32) -> bool
 }
 
 /// Whether a transaction pays more than it spends. A coinbase makes new coins.
-fn pays_too_much(tx: &Tx, worth: i128, paid: i128) -> bool
+pub(crate) fn pays_too_much(tx: &Tx, worth: i128, paid: i128) -> bool
     ensures { result ≡ (not (is_coinbase tx.now) && int_lt worth paid) }
 {
     !tx.is_coinbase() && worth < paid

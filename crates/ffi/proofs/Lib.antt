@@ -1,6 +1,7 @@
 pub mod Asked
 pub mod AsBox
 pub mod AsTxBox
+pub mod AsUtxoBox
 pub mod Fronts
 pub mod Opcodes
 pub mod Places

@@ -16,4 +16,6 @@ pub mod SessionState
 pub mod Signatures
 pub mod Tables
 pub mod Transactions
+pub mod Utxo
+pub mod UtxoState
 pub mod inside

@@ -4,3 +4,4 @@ pub mod Parts
 pub mod Known
 pub mod Signatures
 pub mod Agreeing
+pub mod Utxo

@@ -28,7 +28,8 @@ use std::alloc::Global;
 use txn::ids;
 use wire::Memory;
 
-fn refusal(fault: ReadFault) -> u32
+/// Why there is no block, by its number.
+pub(crate) fn refusal(fault: ReadFault) -> u32
     ensures { result ≡ read_number fault }
 {
     match fault {

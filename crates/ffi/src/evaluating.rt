@@ -248,6 +248,23 @@ fn stack_of(alloc: Global, sizes: &[u64], bytes: &[u8]) -> Result<Option<Pile<El
         (sizes_of stack ≡ sizes.now) × (bytes_in stack ≡ bytes.now))) }
     ensures none { IfOk result (λ found. IfNone found (all_sizes sizes.now ≢ length bytes.now)) }
 {
+    match all_elements(alloc, sizes, bytes)? {
+        None => Ok(None),
+        Some(elements) => Ok(Some(Pile::from_vec(elements))),
+    }
+}
+
+/// The elements of these lengths and bytes; none where the bytes are more or fewer.
+pub(crate) fn all_elements(
+    alloc: Global,
+    sizes: &[u64],
+    bytes: &[u8],
+) -> Result<Option<Vec<Element>>, Memory>
+    ensures found { IfOk result (λ found. IfSome found (λ list.
+        (map (λ element. length element) list.items ≡ sizes.now)
+        × (flat_map (λ element. element) list.items ≡ bytes.now))) }
+    ensures none { IfOk result (λ found. IfNone found (all_sizes sizes.now ≢ length bytes.now)) }
+{
     let mut cursor = Cursor::new(bytes);
     let Some(elements) = elements_of(alloc, sizes, &mut cursor)? else {
         return Ok(None);
@@ -255,7 +272,7 @@ fn stack_of(alloc: Global, sizes: &[u64], bytes: &[u8]) -> Result<Option<Pile<El
     if !cursor.rest().is_empty() {
         return Ok(None);
     }
-    Ok(Some(Pile::from_vec(elements)))
+    Ok(Some(elements))
 }
 
 /// The elements of these lengths, with the bytes at the front; none where these end early.

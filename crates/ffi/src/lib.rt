@@ -10,6 +10,7 @@ mod front;
 mod hashes;
 mod kept;
 mod kept_tx;
+mod kept_utxo;
 mod known;
 pub mod laws;
 mod listing;
@@ -27,12 +28,18 @@ mod tables;
 mod transactions;
 mod tx_slot;
 mod unboxed;
+mod utxo;
+mod utxo_calls;
+mod utxo_slot;
 
 pub use answers::{
     Answer, Heights, Made, Name, Place, ShownCoin, ShownHeader, ShownSpent, ShownTip,
 };
 pub use kept::Kept;
 pub use kept_tx::KeptTx;
+pub use kept_utxo::KeptUtxo;
 pub use session::Session;
 pub use slot::Slot;
 pub use tx_slot::TxSlot;
+pub use utxo::Utxo;
+pub use utxo_slot::UtxoSlot;

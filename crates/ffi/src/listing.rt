@@ -5,7 +5,7 @@ ghost use Rattle.std.specs.Map.Iter.{deref_pair};
 ghost use Rattle.std.specs.Option.{option_copied, option_map};
 ghost use Rattle.tree.specs.Branches.{place_of};
 ghost use Rattle.tree.specs.Names.{names};
-ghost use Rattle.ffi.specs.Answers.{IsBlockShown, IsBlockTold, IsNextOf, IsNextTold, above_of, coin_row, id_of, outpoint_of};
+ghost use Rattle.ffi.specs.Answers.{IsBlockShown, IsBlockTold, IsNextOf, IsNextShown, IsNextTold, above_of, coin_row, id_of, outpoint_of};
 ghost use Rattle.ffi.specs.Room.{IsFilled};
 
 use crate::answers::{CLOSED, DONE, NONE, Name, Place, ShownCoin};
@@ -86,6 +86,20 @@ fn show_next(
 {
     let from = outpoint(at);
     let found = session.coin_after(if above == 0 { None } else { Some(&from) });
+    tell_next(found, at, shown, script)
+}
+
+/// Shows the coin that comes next, if there is one. Where the room is too small for its script, `at` stays.
+pub(crate) fn tell_next(
+    found: Option<(&OutPoint, &Coin)>,
+    at: &mut Place,
+    shown: &mut ShownCoin,
+    script: &mut [u8],
+) -> u32
+    ensures { IsNextShown (option_map deref_pair found.entry)
+        (record { at = at.old; shown = shown.old; script = script.old })
+        (record { at = at.new; shown = shown.new; script = script.new }) result }
+{
     let Some((next, coin)) = found else {
         return NONE;
     };

@@ -178,7 +178,8 @@ pub extern "C" fn ffi_spent(
     }
 }
 
-fn tell_spent(
+/// Shows the coins that a block spent, without their scripts, and these, where there is room for both.
+pub(crate) fn tell_spent(
     alloc: Global,
     undo: &BlockUndo,
     coins: &mut [ShownCoin],

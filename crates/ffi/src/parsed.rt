@@ -1,20 +1,29 @@
 //! A transaction that is read once and asked many times: C keeps it in a slot.
 
-ghost use Rattle.std.specs.Prelude.{◌≡◌, ◌+◌, length, IfErr, IfOk, Ok, None};
+ghost use Rattle.std.specs.Prelude.{◌≡◌, ℕ, ◌+◌, ◌<◌, length, IfErr, IfOk, Ok, None, Option};
+ghost use Rattle.curve.specs.Known.{verdict_in};
 ghost use Rattle.curve.specs.Lines.{lines};
+ghost use Rattle.interp.specs.Answer.{Answer, Tells};
+ghost use Rattle.interp.specs.Question.{question};
+ghost use Rattle.interp.specs.computed.Named.{verify_script};
+ghost use Rattle.interp.specs.declared.script_error.ScriptError.{ScriptError as ScriptErrorValue};
 ghost use Rattle.txn.specs.Grammar.{transaction};
 ghost use Rattle.txn.specs.computed.Reading.{tx_at};
 ghost use Rattle.ffi.specs.Answers.{close_number};
-ghost use Rattle.ffi.specs.Named.{IsInputNamed, told_of};
-ghost use Rattle.ffi.specs.Parsed.{IsOfKept, IsRead, IsReadWhole};
+ghost use Rattle.ffi.specs.Named.{IsInputNamed, flags_in, told_of};
+ghost use Rattle.ffi.specs.Parsed.{AreInputsNamed, IsOfKept, IsRead, IsReadWhole, IsRefusalAnswered, first_refused, told_all};
 ghost use Rattle.ffi.specs.inside.Parts.{IsRefusal};
 
-use crate::answers::{CLOSED, DONE, EXTRA, FULL, MEMORY, NO_INPUT};
-use crate::known::known_of;
-use crate::named::tell_failure;
-use crate::shown::{InputQuestion, InputTold};
+use crate::answers::{CLOSED, DONE, EXTRA, FULL, MEMORY, MISMATCH, NO_INPUT};
+use crate::evaluating::all_elements;
+use crate::known::{known_of, tell_line};
+use crate::named::{flags_in, number_of, tell_failure};
+use crate::shown::{AllQuestion, AllTold, InputQuestion, InputTold};
 use crate::transactions::front;
 use crate::tx_slot::{TxSlot, put_tx, take_tx};
+use curve::FoundTables;
+use interp::{Element, Job, ScriptError, Unverified, verify_script};
+use sighash::{Midstates, SpentScripts};
 use std::alloc::Global;
 use txn::Tx;
 use wire::Cursor;
@@ -145,4 +154,147 @@ fn verify_input(
             &mut told.count,
         ),
     }
+}
+
+/// The first input of the transaction in a slot that may not spend its script, and why, as `ffi_tx_verify_input` tells it of
+/// one. What the messages of its signatures have in common is hashed once.
+#[unsafe(no_mangle)]
+pub extern "C" fn ffi_tx_verify(
+    alloc: Global,
+    slot: &mut TxSlot,
+    question: &AllQuestion,
+    told: &mut AllTold,
+    asked: &mut [u8],
+) -> u32
+    ensures stays { slot.new.kept.value ≡ slot.old.kept.value }
+    ensures told { let before = told_all told.old asked.old in
+        let after = told_all told.new asked.new in
+        IsOfKept slot.old.kept.value (λ tx. AreInputsNamed tx question.now before after result)
+        (after ≡ before) result }
+{
+    let Some(tx) = take_tx(alloc, slot) else {
+        return CLOSED;
+    };
+    let code = verify_all(alloc, &tx, question, told, asked);
+    put_tx(slot, tx);
+    code
+}
+
+/// The first input that may not spend its script, and why, by two tables.
+fn verify_all(
+    alloc: Global,
+    tx: &Tx,
+    all: &AllQuestion,
+    told: &mut AllTold,
+    asked: &mut [u8],
+) -> u32
+    ensures { AreInputsNamed tx.now all.now (told_all told.old asked.old)
+        (told_all told.new asked.new) result }
+{
+    if all.sizes.len() != tx.inputs.len() {
+        return MISMATCH;
+    }
+    let scripts = match all_elements(alloc, all.sizes, all.scripts) {
+        Err(_) => return MEMORY,
+        Ok(None) => return MISMATCH,
+        Ok(Some(scripts)) => scripts,
+    };
+    match known_of(alloc, all.valid, all.invalid, &mut told.line) {
+        Err(code) => code,
+        Ok(known) => {
+            let found = first_refused(alloc, tx, scripts.as_slice(), all.flags, &known);
+            tell_refused(alloc, found, told, asked)
+        }
+    }
+}
+
+/// What was found of all inputs: the first that is refused and why, or none, or a triple that is asked for.
+fn tell_refused(
+    alloc: Global,
+    found: Result<Option<(usize, ScriptError)>, Unverified>,
+    told: &mut AllTold,
+    asked: &mut [u8],
+) -> u32
+    ensures answer { (answer : Answer (Option (ℕ × ScriptErrorValue))) → Tells found answer
+        → IsRefusalAnswered answer (told_all told.old asked.old) (told_all told.new asked.new)
+        result }
+    ensures line { told.new.line ≡ told.old.line }
+{
+    match found {
+        Ok(None) => {
+            told.input = 0;
+            told.error = 0;
+            DONE
+        }
+        Ok(Some((place, name))) => {
+            told.input = place as u64;
+            told.error = number_of(name);
+            DONE
+        }
+        Err(Unverified::Memory) => MEMORY,
+        Err(Unverified::Unknown(triple)) => tell_line(alloc, &triple, asked, &mut told.count),
+    }
+}
+
+/// The scripts that the inputs of one transaction spend.
+#[derive(Drop)]
+struct Spent<'a> {
+    scripts: &'a [Element],
+}
+
+impl SpentScripts for Spent<'_> {
+    fn script(&self, _place: usize, input: usize) -> Option<&[u8]> {
+        match self.scripts.get(input) {
+            Some(script) => Some(script.as_slice()),
+            None => None,
+        }
+    }
+}
+
+/// The first input that may not spend its script, and why.
+fn first_refused(
+    alloc: Global,
+    tx: &Tx,
+    scripts: &[Element],
+    flags: u32,
+    known: &FoundTables,
+) -> Result<Option<(usize, ScriptError)>, Unverified>
+    requires { length scripts.now ≡ length tx.now.inputs }
+    ensures { Tells result (first_refused (verdict_in known.now) (flags_in flags) tx.now 0
+        scripts.now) }
+{
+    let midstates = Midstates::of(alloc, tx, 0, &Spent { scripts })?;
+    for place in 0..scripts.len() {
+        let spent = scripts[place].as_slice();
+        match verify_one(alloc, &midstates, place, spent, flags, known) {
+            Ok(Ok(())) => (),
+            Ok(Err(name)) => return Ok(Some((place, name))),
+            Err(stop) => return Err(stop),
+        }
+    }
+    Ok(None)
+}
+
+/// Why an input of the transaction of these midstates may not spend a script.
+fn verify_one<'a>(
+    alloc: Global,
+    midstates: &'a Midstates<'a>,
+    input: usize,
+    spent: &'a [u8],
+    flags: u32,
+    known: &FoundTables,
+) -> Result<Result<(), ScriptError>, Unverified>
+    requires { input < length midstates.now.tx.now.inputs }
+    ensures { Tells result (verify_script (verdict_in known.now)
+        (question midstates.now.tx.now input spent.now (flags_in flags))) }
+{
+    let flags = flags_in(flags);
+    let job = Job {
+        tx: midstates.tx,
+        input,
+        spent,
+        flags,
+        midstates: Some(midstates),
+    };
+    verify_script(alloc, &job, known)
 }

@@ -3,7 +3,7 @@
 ghost use Rattle.std.specs.Prelude.{◌≡◌};
 ghost use Rattle.ffi.specs.Refusals.{bit};
 
-use crate::answers::Name;
+use crate::answers::{Heights, Name};
 
 /// A yes or a no as a number.
 pub(crate) fn bit(yes: bool) -> u32
@@ -147,5 +147,56 @@ pub struct InputQuestion<'a> {
 pub struct InputTold {
     pub line: u64,
     pub count: u64,
+    pub error: u32,
+}
+
+/// Where a block is connected: the medians time past of its parent's branch by height, genesis first, from which heights
+/// soft forks are in force, its height, and its parent's median time past.
+#[repr(C)]
+#[derive(Clone, Copy)]
+pub struct BlockSetting<'a> {
+    pub medians: &'a [u32],
+    pub heights: Heights,
+    pub height: u32,
+    pub cutoff: u32,
+}
+
+/// The first rule that a block breaks, 0 where there is none, with the transaction and the input whose script isn't accepted.
+#[repr(C)]
+#[derive(Clone, Copy, Drop)]
+pub struct Fault {
+    pub transaction: u64,
+    pub input: u64,
+    pub reason: u32,
+}
+
+/// A transaction's fee in satoshis, and the first rule that it breaks over coins, 0 where there is none.
+#[repr(C)]
+#[derive(Clone, Copy, Drop)]
+pub struct InputsTold {
+    pub fee: i64,
+    pub reason: u32,
+}
+
+/// What is asked of all inputs: the scripts that they spend, one after the other, and how many bytes each has; the rules that
+/// are in force by Bitcoin Core's bits; and two tables.
+#[repr(C)]
+#[derive(Clone, Copy)]
+pub struct AllQuestion<'a> {
+    pub scripts: &'a [u8],
+    pub sizes: &'a [u64],
+    pub valid: &'a [u8],
+    pub invalid: &'a [u8],
+    pub flags: u32,
+}
+
+/// What is told of all inputs: the number of the line that can't be read, how many bytes the line has that is asked for, the
+/// first input that is refused, and the number of its failure.
+#[repr(C)]
+#[derive(Clone, Copy, Drop)]
+pub struct AllTold {
+    pub line: u64,
+    pub count: u64,
+    pub input: u64,
     pub error: u32,
 }

@@ -117,6 +117,14 @@ WRONG: Dict[str, List[Any]] = {
         *SEQUENCE[1:], [], [1], [1] * 3, [1] * 5, [1, 1, 1, -1], [1, 1, 1, 1 << 32], [1, 1, 1, 0.5], [True] * 4,
     ],
     "times": [*SEQUENCE, [-1], [1 << 32], [0.5], ["1"], [None], [True], [b"1"]],
+    "coin": [
+        None, *NOTHING, *NUMBERS, *FRACTIONS, *TEXTS, *LISTS, *(chainstate.Coin(own, b"", 7, False) for own in (1 << 63, 0.5, "1")),
+        chainstate.Coin(1, "51", 7, False), chainstate.Coin(1, b"", -1, False), chainstate.Coin(1, b"", 7, 1),  # type: ignore[arg-type]
+    ],
+    "given": [
+        *SEQUENCE, [1], [(bytes(32), 0)], [(bytes(31), 0, chainstate.Coin(1, b"", 7, False))], [(bytes(32), -1, chainstate.Coin(1, b"", 7, False))],
+        [(bytes(32), 0, 7)], [(bytes(32), 0, (1, b"", 7, False))],
+    ],
     "starts": [*SEQUENCE, [1], [(1,)], [(1, 2, 3)], [(1, -1)], [(0.5, 1)], ["12"], [b"12"], [{1, 2}], [(1, 1 << 32)]],
     "outpoints": [
         *SEQUENCE, [1], [(bytes(32),)], [(bytes(31), 0)], [(bytes(32), -1)], [(bytes(32), 0.7)], [("00" * 32, 0)], ["ab"],
@@ -192,6 +200,7 @@ def row(name: str, **arguments: Tuple[str, Any]) -> Call:
     return Call(name, arguments)
 
 
+COIN = chainstate.Coin(1, b"", 7, False)
 DATA = ("bytes", RAW)
 BLOCK = ("bytes", FIRST)
 ID = ("id", GENESIS.id)
@@ -250,6 +259,8 @@ ROWS = [
     row("consensus.ParsedTransaction", data=DATA, whole=("flag", True)), row("consensus.ParsedTransaction.close"),
     row("consensus.ParsedTransaction.verify_input", input=("number", 0), spent=("bytes", b""), flags=("rules", {"P2SH"}),
         valid=("lines", ""), invalid=("lines", b"")),
+    row("consensus.ParsedTransaction.verify_inputs", spent=("stack", [b""] * len(PARTS.inputs)), flags=("rules", {"P2SH"}),
+        valid=("lines", ""), invalid=("lines", b"")),
     row("consensus.ParsedTransaction.verify", input=("number", 0), spent=("bytes", b""), flags=("flags", ["CSV"]),
         table=("lines", b""), signatures=("optional source", "secp256k1")),
     row("consensus.triple_of", triple=("triple", TRIPLE)), row("consensus.Triple.of_line", line=("line", TRIPLE.line)),
@@ -264,6 +275,14 @@ ROWS = [
     row("chainstate.Chainstate", heights=("heights", (1, 1, 1, 1)), table=("lines", ""), by_need=("flag", False)),
     *(row(f"chainstate.Chainstate.{name}", **words) for name, words in CHAIN),
     row("chainstate.Chainstate.wants"), row("chainstate.Chainstate.learn", triple=("triple", TRIPLE), valid=("flag", True)),
+    row("coinset.CoinSet", coins=("given", [(GENESIS.id, 0, COIN)])),
+    row("coinset.CoinSet.put", id=ID, index=("number32", 0), coin=("coin", COIN)),
+    row("coinset.CoinSet.connect", block=BLOCK, height=("number32", 1), cutoff=("number32", 1), medians=("times", [1]),
+        heights=("heights", (1, 1, 1, 1))),
+    row("coinset.CoinSet.check_tx_inputs", data=DATA, height=("number32", 1)),
+    row("coinset.CoinSet.learn", triple=("triple", TRIPLE), valid=("flag", True)),
+    row("coinset.CoinSet.coin", id=ID, index=("number32", 0)),
+    *(row(f"coinset.CoinSet.{name}") for name in ("disconnect", "spent", "wants", "coins", "close")),
     row("bench.Bench", heights=("heights", (1, 1, 1, 1)), table=("lines", ""), threads=("threads", 1)),
     *(row(f"bench.Bench.{name}", **words) for name, words in CHAIN),
     row("bench.Bench.table_from", place=("number", 0)), row("bench.Bench.fresh"),
@@ -344,7 +363,7 @@ ANSWERS = {
     "encoding.Input", "encoding.Output", "encoding.Transaction", "encoding.Header", "encoding.Block", "encoding.Spelled",
     "chainstate.BlockHeader", "chainstate.Moved", "served.Stamped", "served.UnspentOutput", "served.Entry", "served.Info", "node.Seat",
     "asyncnode.AsyncSeat", "library.Heights",
-    "library.Answer", "library.Tip", "library.Coin", "library.CoinCall", "library.Header", "library.SpentSize",
+    "coinset.Fault", "library.Setting", "library.Fault", "library.Answer", "library.Tip", "library.Coin", "library.CoinCall", "library.Header", "library.SpentSize",
 }  # fmt: skip
 
 
@@ -401,7 +420,7 @@ class WrongTest(unittest.TestCase):
         """Something that has the methods of a class."""
         made = {
             "consensus.Table": consensus.Table, "consensus.ParsedTransaction": lambda: consensus.ParsedTransaction(RAW),
-            "chainstate.Chainstate": lambda: chainstate.Chainstate(by_need=True),
+            "chainstate.Chainstate": lambda: chainstate.Chainstate(by_need=True), "coinset.CoinSet": wakotehu.CoinSet,
             "bench.Bench": bench.Bench, "encoding.Spelled": lambda: encoding.block_at_front(FIRST),
             "signatures.Secp256k1": signatures.Secp256k1, "signatures.Verifier": signatures.Verifier,
             "pool.Pool": lambda: wakotehu.Pool(POOLED),

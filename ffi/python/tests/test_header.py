@@ -15,10 +15,11 @@ FFI = os.path.realpath(os.path.join(os.path.dirname(os.path.abspath(__file__)), 
 HEADER, SECP256K1 = f"{FFI}/include/wakotehu.h", f"{FFI}/include/wakotehu-secp256k1.h"
 
 #: Calls that Python doesn't make.
-UNUSED = {"wakotehu_version", "wakotehu_wants", "wakotehu_secp256k1_verify"}
+UNUSED = {"wakotehu_version", "wakotehu_wants", "wakotehu_utxo_wants", "wakotehu_secp256k1_verify"}
 #: Python's types of the header's structs and callbacks.
 STRUCTS: Dict[str, Any] = {
     "wakotehu_heights": library.Heights, "wakotehu_answer": library.Answer, "wakotehu_tip": library.Tip,
+    "wakotehu_setting": library.Setting, "wakotehu_fault": library.Fault,
     "wakotehu_coin": library.Coin, "wakotehu_header_shown": library.Header, "wakotehu_spent_size": library.SpentSize,
     "wakotehu_transaction": consensus._Transaction, "wakotehu_input": consensus._Input,
     "wakotehu_output": consensus._Output, "wakotehu_start": consensus._Start, "wakotehu_block_shown": consensus._Block,
@@ -28,7 +29,7 @@ STRUCTS: Dict[str, Any] = {
 SCALARS: Dict[str, Any] = {
     "uint8_t": ctypes.c_uint8, "uint32_t": ctypes.c_uint32, "uint64_t": ctypes.c_uint64, "int32_t": ctypes.c_int32,
     "int64_t": ctypes.c_int64, "size_t": ctypes.c_size_t, "int": ctypes.c_int, "wakotehu_handle": ctypes.c_uint64,
-    "wakotehu_tx": ctypes.c_uint64,
+    "wakotehu_tx": ctypes.c_uint64, "wakotehu_utxo": ctypes.c_uint64,
     # An enum without negative values.
     "wakotehu_code": ctypes.c_uint32,
 }  # fmt: skip
@@ -54,10 +55,11 @@ def kind_of(parameter: str) -> str:
 def fields_of(body: str) -> List[Tuple[str, str]]:
     """The fields of a struct: their names and types."""
     found = []
-    for kind, names in re.findall(r"(\w+) ([^;]+);", body):
+    for kind, names in re.findall(r"(?:const )?(\w+) ([^;]+);", body):
         for name in names.split(","):
             word, _, count = name.strip().partition("[")
-            found.append((word, kind + (f"[{count}" if count else "")))
+            pointer = "*" if word.startswith("*") else ""
+            found.append((word.lstrip("*"), kind + pointer + (f"[{count}" if count else "")))
     return found
 
 
@@ -101,6 +103,10 @@ def is_answer(declared: Any, kind: str) -> bool:
 
 
 def field_type(kind: str) -> Any:
+    if kind.endswith("*"):
+        return ctypes.POINTER(field_type(kind[:-1]))
+    if kind in STRUCTS:
+        return STRUCTS[kind]
     word, _, count = kind.partition("[")
     return SCALARS[word] * int(count[:-1]) if count else SCALARS[word]
 

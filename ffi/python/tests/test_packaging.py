@@ -10,6 +10,7 @@ import unittest
 
 import wakotehu
 from test_node import PROGRAM as REGCHAIN
+from wakotehu.processor import chosen
 
 FFI = os.path.realpath(os.path.join(os.path.dirname(os.path.abspath(__file__)), "..", ".."))
 PROGRAM = """#include <stdio.h>
@@ -95,8 +96,8 @@ class InstallTest(unittest.TestCase):
         self.assertTrue(package.startswith(f"{self.folder}/venv/"), package)
         told = run(python, "-m", "wakotehu", cwd=self.folder, env=names)
         self.assertEqual(told.splitlines(), [
-            f"wakotehu {wakotehu.__version__}", f"library: {package}/libwakotehu.so.0",
-            f"signatures: {package}/libwakotehu-secp256k1.so.0", f"program: {package}/regchain",
+            f"wakotehu {wakotehu.__version__}", f"library: {chosen(f'{package}/libwakotehu.so.0')}",
+            f"signatures: {package}/libwakotehu-secp256k1.so.0", f"program: {chosen(f'{package}/regchain')}",
         ])  # fmt: skip
         asked = "from wakotehu import Bench, Node; print(Bench().height(), Node(save='made').close())"
         self.assertEqual(run(python, "-W", "ignore", "-c", asked, cwd=self.folder, env=names), "0 0\n")

@@ -37,6 +37,46 @@ class ParsedTest(unittest.TestCase):
                 with self.assertRaisesRegex(c.Refused, "no such input"):
                     tx.verify_input(beyond, b"\x51")
 
+    def test_all_inputs_at_once(self) -> None:
+        """Beside one after the other: the first that is refused, whichever it is."""
+        data = spending([push(bytes([n])) for n in range(40)])
+        right = [push(bytes([n])) + b"\x87" for n in range(40)]
+        with c.ParsedTransaction(data) as tx:
+            self.assertIsNone(tx.verify_inputs(right))
+            for n in (0, 1, 17, 31, 32, 39):
+                wrong = [*right[:n], right[n - 1], *right[n + 1 :]]
+                wrong[39] = b"\x6a"
+                self.assertEqual(tx.verify_inputs(wrong), (n, c.ScriptError.EVAL_FALSE if n < 39 else c.ScriptError.OP_RETURN))
+            for lacking in (right[:-1], [*right, b""], []):
+                with self.assertRaisesRegex(c.Refused, "mismatch"):
+                    tx.verify_inputs(lacking)
+            self.assertEqual(tx.verify_inputs([*right[:7], b"\x01\x7f\xb1", *right[8:]]), (7, c.ScriptError.UNSATISFIED_LOCKTIME))
+            self.assertIsNone(tx.verify_inputs([*right[:7], b"\x01\x7f\xb1", *right[8:]], ["P2SH"]))
+
+    def test_all_signatures_at_once(self) -> None:
+        """Of a hundred inputs, signed by every type of hash: what is asked for is what a second program signs."""
+        secp, secret = Secp256k1(), bytes(31) + b"\x07"
+        spent = push(secp.public_key(secret)) + b"\xac"
+        bare = spending([b""] * 100)
+        kinds = [(1, 2, 3, 0x81, 0x82, 0x83)[n % 6] for n in range(100)]
+        own = [
+            push(secp.sign(secret, c.signature_digest(bare, n, spent, kind)) + bytes([kind])) for n, kind in enumerate(kinds)
+        ]  # fmt: skip
+        for wrong in (None, 57):
+            scripts = [own[(n + 6) % 100 if n == wrong else n] for n in range(100)]
+            asked, valid, invalid = 0, b"", b""
+            with c.ParsedTransaction(spending(scripts)) as tx:
+                while isinstance(found := tx.verify_inputs([spent] * 100, ["P2SH", "DERSIG"], valid, invalid), c.Triple):
+                    asked += 1
+                    if secp.valid(found):
+                        valid += found.line
+                    else:
+                        invalid += found.line
+            self.assertEqual(found, None if wrong is None else (57, c.ScriptError.EVAL_FALSE))
+            # Of SINGLE without an output each digest is 1, so one signature serves them all.
+            met = 100 if wrong is None else wrong + 1
+            self.assertEqual(asked, met - sum(kind & 3 == 3 for kind in kinds[:met]) + 1)
+
     def test_flags_of_each_call_alone_count(self) -> None:
         data = spending([b"\x51", b"\x01\x00"])
         inner = b"\xa9\x14" + c.hash160(b"\x00") + b"\x87"

@@ -4,13 +4,15 @@
 libsecp256k1, and `Pool` has the transactions that wait to be mined on it. `Node` is a proved node for many callers, in a
 process of its own, with a table or, by `verify=secp256k1`, real signatures; `AsyncNode` the same for asyncio. `Replica` is
 one of many such nodes that have one history, over PostgreSQL; `AsyncReplica` the same for asyncio. `ParsedTransaction` is
-a transaction that is read once, whose inputs are judged by the rules alone (`wakotehu.consensus`).
+a transaction that is read once, whose inputs are judged by the rules alone (`wakotehu.consensus`). `CoinSet` has coins of
+one's own, over which blocks are connected and transactions checked, apart from any chainstate.
 `python3 -m wakotehu.server` answers the calls of bitcoind's JSON-RPC.
 """
 
 from .asyncreplica import AsyncReplica, AsyncReplicaSeat
 from .bench import Bench
 from .chainstate import REGTEST, Chainstate, Coin, Moved, Reply, Tip, read_id, show
+from .coinset import CoinSet
 from .consensus import ParsedTransaction
 from .errors import (
     BadRequest, BadRow, BadTable, Busy, Closed, Contradiction, DatabaseMissing, DecodeFailed, Error, Genesis, HistoryFull,
@@ -25,7 +27,7 @@ from .version import __version__
 
 __all__ = [
     "REGTEST", "AsyncNode", "AsyncReplica", "AsyncReplicaSeat", "AsyncSeat", "BadRequest", "BadRow", "BadTable",
-    "Bench", "BlockHeader", "Busy", "Chainstate", "Closed", "Coin", "Contradiction", "DatabaseMissing",
+    "Bench", "BlockHeader", "Busy", "Chainstate", "Closed", "Coin", "CoinSet", "Contradiction", "DatabaseMissing",
     "DecodeFailed", "Entry", "Error", "Genesis", "HistoryFull", "Info", "LibraryMissing", "Memory", "Moved",
     "NoHistory", "Node", "NodeDied", "NotAccepted", "NotFound", "NotSaved", "OtherLoop", "OtherProcess", "Owed",
     "ParsedTransaction", "Placed", "Pool",

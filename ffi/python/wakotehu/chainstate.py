@@ -5,7 +5,7 @@ import re
 import threading
 import time
 from types import TracebackType
-from typing import Any, Iterator, List, NamedTuple, NoReturn, Optional, Sequence, Tuple, Type, Union
+from typing import Any, Iterator, List, NamedTuple, NoReturn, Optional, Sequence, Tuple, Type, TypeVar, Union
 
 from . import arguments, errors
 from .arguments import id_of, number, octets
@@ -21,6 +21,7 @@ REGTEST = (1, 1, 1, 1)
 
 _DIGITS = re.compile("[0-9A-Fa-f]{64}")
 _MARKS = ("invalidate", "reconsider", "precious")
+_Self = TypeVar("_Self", bound="_Held")
 _STATUS = ("", "active", "invalid", "valid-fork", "valid-headers")
 _REPLIES = (
     "", "accepted", "inconclusive", "duplicate", "duplicate-invalid", "duplicate-inconclusive", "rejected",
@@ -115,7 +116,128 @@ def reply_of(answer: Answer) -> Reply:
     return Reply(text, reply, reason, answer.transaction, answer.input)
 
 
-class Chainstate:
+class _Held:
+    """What the library keeps behind a handle: it has coins, and it learns of signatures."""
+
+    _prefix = "wakotehu_"
+    _library: ctypes.CDLL
+    _handle = 0
+
+    def _of(self, name: str) -> Any:
+        """A call of this kind of handle."""
+        return getattr(self._library, self._prefix + name)
+
+    # ---- its life
+
+    def close(self) -> None:
+        """Gives its memory back. Later calls raise `Closed`; closing twice is fine."""
+        if self._handle:
+            code = self._of("close")(self._handle)
+            if code != 2:
+                self._check(code)
+
+    def __enter__(self: _Self) -> _Self:
+        return self
+
+    def __exit__(
+        self, kind: Optional[Type[BaseException]], value: Optional[BaseException], trace: Optional[TracebackType]
+    ) -> None:
+        self.close()
+
+    def __del__(self) -> None:
+        if getattr(self, "_handle", 0):
+            self._of("close")(self._handle)
+
+    def __reduce_ex__(self, protocol: object) -> NoReturn:
+        """It isn't copied by `copy.copy` and isn't pickled: that copy would close the original's handle."""
+        raise TypeError(f"a {type(self).__name__} can't be copied or pickled")
+
+    # ---- signatures by need
+
+    def wants(self) -> List[Triple]:
+        """The signatures at which scripts of the last command stopped, each once, where that raised `Wants`."""
+        return Triple.of_lines(self._want_lines())
+
+    def _want_lines(self) -> List[bytes]:
+        """Their lines in the text of a table, each once."""
+        needed, lines = ctypes.c_size_t(), ctypes.create_string_buffer(8192)
+        for _ in range(2):
+            code = self._of("want_lines")(self._handle, lines, len(lines), ctypes.byref(needed))
+            if code != 5:
+                break
+            lines = ctypes.create_string_buffer(needed.value)
+        self._check(code)
+        # A newline stands in front of each.
+        return list(dict.fromkeys(ctypes.string_at(lines, needed.value).split(b"\n")[1:]))
+
+    def learn(self, triple: Triple, valid: bool) -> None:
+        """Takes whether a signature is valid. A verdict that contradicts a known one raises `Contradiction`."""
+        (key, signature, digest), valid = triple_of(triple), arguments.flag(valid, "valid")
+        words = key, len(key), signature, len(signature), digest, int(valid)
+        self._check(self._of("learn")(self._handle, *words))
+
+    # ---- coins
+
+    def coin(self, id: bytes, index: int) -> Optional[Coin]:
+        """The coin at an outpoint, or None."""
+        id, index = id_of(id), number(index, "index")
+        coin, script = _Coin(), ctypes.create_string_buffer(128)
+        for _ in range(2):
+            code = self._of("coin_at")(self._handle, id, index, ctypes.byref(coin), script, len(script))
+            if code != 5:
+                break
+            script = ctypes.create_string_buffer(coin.script)
+        if code == 4:
+            return None
+        self._check(code)
+        return Coin(coin.value, script.raw[: coin.script], coin.height, bool(coin.coinbase))
+
+    def coins(self) -> List[Tuple[bytes, int, Coin]]:
+        """All coins, as the id of a transaction, an output's number, and the coin, by rising outpoints: by the bytes of the
+        id as they are hashed, then by the number.
+
+        An exception, Ctrl-C too, ends the walk and is raised.
+        """
+        walk = _Walk()
+        # On a thread of its own: Python lets Ctrl-C interrupt the main thread alone, and inside a callback it would be
+        # lost.
+        thread = threading.Thread(target=walk.run, args=(self._of("coins"), self._handle))
+        try:
+            thread.start()
+            thread.join()
+        finally:
+            walk.stop()
+        if walk.error is not None:
+            raise walk.error
+        self._check(walk.code)
+        return walk.found
+
+    def _spent(self, name: str, *words: object) -> Optional[List[Coin]]:
+        """The coins that a block spent, or None where there is none of which that is told."""
+        size, coins, scripts = _SpentSize(), (_Coin * 16)(), ctypes.create_string_buffer(1024)
+        for _ in range(2):
+            room = coins, len(coins), scripts, len(scripts)
+            code = self._of(name)(self._handle, *words, *room, ctypes.byref(size))
+            if code != 5:
+                break
+            coins, scripts = (_Coin * size.coins)(), ctypes.create_string_buffer(size.scripts or 1)
+        if code == 4:
+            return None
+        self._check(code)
+        return list(_coins_of(coins[: size.coins], scripts.raw))
+
+    # ---- inside
+
+    def _check(self, code: int) -> None:
+        if code == 0:
+            return
+        kinds = {
+            1: MemoryError, 2: errors.Closed, 7: errors.Busy, 8: ValueError, 9: errors.TooMany, 30: errors.Contradiction,
+        }  # fmt: skip
+        raise kinds.get(code, errors.Error)(self._library.wakotehu_code_text(code).decode())
+
+
+class Chainstate(_Held):
     """A chainstate, as the proved library keeps it. It begins with the genesis block alone.
 
     heights: from which heights BIPs 34, 65, 66 and 68 with 112 and 113 are in force.
@@ -150,32 +272,6 @@ class Chainstate:
             raise errors.BadTable(line.value)
         self._check(code)
         self._handle = handle.value
-
-    # ---- its life
-
-    def close(self) -> None:
-        """Gives its memory back. Later calls raise `Closed`; closing twice is fine."""
-        if self._handle:
-            code = self._library.wakotehu_close(self._handle)
-            if code != 2:
-                self._check(code)
-
-    def __enter__(self) -> "Chainstate":
-        return self
-
-    def __exit__(
-        self, kind: Optional[Type[BaseException]], value: Optional[BaseException], trace: Optional[TracebackType]
-    ) -> None:
-        self.close()
-
-    def __del__(self) -> None:
-        if getattr(self, "_handle", 0):
-            self._library.wakotehu_close(self._handle)
-
-    def __reduce_ex__(self, protocol: object) -> NoReturn:
-        """A chainstate isn't copied by `copy.copy` and isn't pickled: that copy would close the original's handle. `copy`
-        makes another one."""
-        raise TypeError("a Chainstate can't be copied or pickled")
 
     # ---- commands
 
@@ -231,30 +327,6 @@ class Chainstate:
         """As `_submit_into`."""
         return self._command(mark_of(command), arguments.instance(answer, Answer, "answer"), id_of(id))
 
-    # ---- signatures by need
-
-    def wants(self) -> List[Triple]:
-        """The signatures at which scripts of the last command stopped, each once, where that raised `Wants`."""
-        return Triple.of_lines(self._want_lines())
-
-    def _want_lines(self) -> List[bytes]:
-        """Their lines in the text of a table, each once."""
-        needed, lines = ctypes.c_size_t(), ctypes.create_string_buffer(8192)
-        for _ in range(2):
-            code = self._library.wakotehu_want_lines(self._handle, lines, len(lines), ctypes.byref(needed))
-            if code != 5:
-                break
-            lines = ctypes.create_string_buffer(needed.value)
-        self._check(code)
-        # A newline stands in front of each.
-        return list(dict.fromkeys(ctypes.string_at(lines, needed.value).split(b"\n")[1:]))
-
-    def learn(self, triple: Triple, valid: bool) -> None:
-        """Takes whether a signature is valid. A verdict that contradicts a known one raises `Contradiction`."""
-        (key, signature, digest), valid = triple_of(triple), arguments.flag(valid, "valid")
-        words = key, len(key), signature, len(signature), digest, int(valid)
-        self._check(self._library.wakotehu_learn(self._handle, *words))
-
     # ---- reads
 
     def best(self) -> bytes:
@@ -281,42 +353,6 @@ class Chainstate:
                 return
             self._check(code)
             yield Tip(bytes(tip.id), tip.height, tip.length, _STATUS[tip.status])
-
-    def coin(self, id: bytes, index: int) -> Optional[Coin]:
-        """The coin at an outpoint, or None."""
-        id, index = id_of(id), number(index, "index")
-        coin, script = _Coin(), ctypes.create_string_buffer(128)
-        for _ in range(2):
-            code = self._library.wakotehu_coin_at(
-                self._handle, id, index, ctypes.byref(coin), script, len(script)
-            )
-            if code != 5:
-                break
-            script = ctypes.create_string_buffer(coin.script)
-        if code == 4:
-            return None
-        self._check(code)
-        return Coin(coin.value, script.raw[: coin.script], coin.height, bool(coin.coinbase))
-
-    def coins(self) -> List[Tuple[bytes, int, Coin]]:
-        """All coins, as the id of a transaction, an output's number, and the coin, by rising outpoints: by the bytes of the
-        id as they are hashed, then by the number.
-
-        An exception, Ctrl-C too, ends the walk and is raised.
-        """
-        walk = _Walk()
-        # On a thread of its own: Python lets Ctrl-C interrupt the main thread alone, and inside a callback it would be
-        # lost.
-        thread = threading.Thread(target=walk.run, args=(self._library, self._handle))
-        try:
-            thread.start()
-            thread.join()
-        finally:
-            walk.stop()
-        if walk.error is not None:
-            raise walk.error
-        self._check(walk.code)
-        return walk.found
 
     def block(self, id: bytes) -> Optional[bytes]:
         """The bytes of a block that is kept, or None; None for the genesis block too.
@@ -381,17 +417,7 @@ class Chainstate:
     def spent(self, id: bytes) -> Optional[List[Coin]]:
         """The coins that a block of the active branch spent, by its transactions and their inputs, in order; the coinbase spends
         none, and genesis neither. None where the block isn't on the active branch."""
-        id, size, coins, scripts = id_of(id), _SpentSize(), (_Coin * 16)(), ctypes.create_string_buffer(1024)
-        for _ in range(2):
-            room = coins, len(coins), scripts, len(scripts)
-            code = self._library.wakotehu_spent(self._handle, id, *room, ctypes.byref(size))
-            if code != 5:
-                break
-            coins, scripts = (_Coin * size.coins)(), ctypes.create_string_buffer(size.scripts or 1)
-        if code == 4:
-            return None
-        self._check(code)
-        return list(_coins_of(coins[: size.coins], scripts.raw))
+        return self._spent("spent", id_of(id))
 
     # ---- inside
 
@@ -422,15 +448,6 @@ class Chainstate:
         self._check(code)
         return reply_of(answer)
 
-    def _check(self, code: int) -> None:
-        if code == 0:
-            return
-        kinds = {
-            1: MemoryError, 2: errors.Closed, 7: errors.Busy, 8: ValueError, 9: errors.TooMany, 30: errors.Contradiction,
-        }  # fmt: skip
-        raise kinds.get(code, errors.Error)(self._library.wakotehu_code_text(code).decode())
-
-
 def _coins_of(coins: Sequence[_Coin], scripts: bytes) -> Iterator[Coin]:
     """Coins, whose scripts stand one after the other."""
     place = 0
@@ -449,11 +466,11 @@ class _Walk:
         self._stopped = False
         self._running = threading.Lock()
 
-    def run(self, library: ctypes.CDLL, handle: int) -> None:
+    def run(self, call: Any, handle: int) -> None:
         """Walks, unless it was stopped before."""
         with self._running:
             if not self._stopped:
-                self.code = library.wakotehu_coins(handle, CoinCall(self.take), None)
+                self.code = call(handle, CoinCall(self.take), None)
 
     def stop(self) -> None:
         """Stops the walk, and waits until it has ended."""

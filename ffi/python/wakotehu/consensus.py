@@ -169,6 +169,10 @@ _CALLS = {
     "tx_verify_input": (
         [c_uint64, c_uint64] + _BYTES + [c_uint32] + _BYTES * 2 + [POINTER(c_uint64)] + _YES + _BYTES + [POINTER(c_uint64)]
     ),
+    "tx_verify": (
+        [c_uint64] + _BYTES + [POINTER(c_uint64), c_size_t, c_uint32] + _BYTES * 2 + [POINTER(c_uint64), POINTER(c_uint64)]
+        + _YES + _BYTES + [POINTER(c_uint64)]
+    ),
     "tx_free": [c_uint64],
     "table_read": _BYTES + [POINTER(c_uint64)],
     "table_has": _BYTES * 3 + [c_char_p, POINTER(c_uint64)] + _YES,
@@ -698,6 +702,26 @@ class ParsedTransaction:
     ) -> Union[None, ScriptError, Triple]:  # fmt: skip
         """What `verify_script` answers for an input of this transaction."""
         return _named("tx_verify_input", (self._handle,), input, spent, flags, valid, invalid)
+
+    def verify_inputs(
+        self, spent: Sequence[bytes], flags: Iterable[str] = NAMED, valid: Union[str, bytes, Table] = b"",
+        invalid: Union[str, bytes, Table] = b"",
+    ) -> Union[None, Tuple[int, ScriptError], Triple]:  # fmt: skip
+        """The first input that may not spend its script, and why; None where each may; or a triple of which nothing is known.
+        `spent` has a script for each input, else `Refused` says "mismatch". What the messages of signatures have in common is
+        hashed once for all."""
+        scripts = [octets(it, "spent") for it in arguments.sequence(spent, "spent")]
+        sizes = (c_uint64 * len(scripts))(*map(len, scripts))
+        line, input, error, needed = c_uint64(), c_uint64(), c_uint32(), c_uint64()
+        room = ctypes.create_string_buffer(_MOST_ASKED)
+        tables = (*_sized(_text(valid, "valid")), *_sized(_text(invalid, "invalid")))
+        told = (line, input, error, room, _MOST_ASKED, needed)
+        code = _call("tx_verify", self._handle, *_sized(b"".join(scripts)), sizes, len(scripts), _bits(flags), *tables, *told)
+        if code == 3:
+            raise BadTable(line.value)
+        if code == 29:
+            return Triple.of_line(room.raw[: needed.value])
+        return (input.value, ScriptError(error.value)) if error.value else None
 
     def verify(
         self, input: int, spent: bytes, flags: Iterable[str] = ALL, table: Union[str, bytes, Table] = b"",

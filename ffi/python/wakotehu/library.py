@@ -8,6 +8,7 @@ from ctypes import CFUNCTYPE, POINTER, c_char_p, c_int, c_int64, c_size_t, c_uin
 from typing import Iterator, Optional
 
 from .errors import LibraryMissing
+from .processor import chosen, home
 
 
 class Heights(ctypes.Structure):
@@ -32,6 +33,16 @@ class Header(ctypes.Structure):
 
 class SpentSize(ctypes.Structure):
     _fields_ = [("coins", c_uint64), ("scripts", c_uint64)]
+
+
+class Setting(ctypes.Structure):
+    _fields_ = [
+        ("medians", POINTER(c_uint32)), ("count", c_size_t), ("heights", Heights), ("height", c_uint32), ("cutoff", c_uint32),
+    ]  # fmt: skip
+
+
+class Fault(ctypes.Structure):
+    _fields_ = [("transaction", c_uint64), ("input", c_uint64), ("reason", c_uint32)]
 
 
 CoinCall = CFUNCTYPE(c_int, c_void_p, POINTER(c_uint8), c_uint32, POINTER(Coin), POINTER(c_uint8))
@@ -59,6 +70,17 @@ _CALLS = {
     "ancestor": [c_uint64, c_char_p, c_uint64, c_char_p],
     "fork": [c_uint64, c_char_p, c_char_p, c_char_p],
     "spent": [c_uint64, c_char_p, POINTER(Coin), c_size_t, c_char_p, c_size_t, POINTER(SpentSize)],
+    "utxo_open": [POINTER(c_uint64)],
+    "utxo_close": [c_uint64],
+    "utxo_put": [c_uint64, c_char_p, c_uint32, POINTER(Coin), c_char_p],
+    "utxo_coin_at": [c_uint64, c_char_p, c_uint32, POINTER(Coin), c_char_p, c_size_t],
+    "utxo_coins": [c_uint64, CoinCall, c_void_p],
+    "utxo_spent": [c_uint64, POINTER(Coin), c_size_t, c_char_p, c_size_t, POINTER(SpentSize)],
+    "utxo_want_lines": [c_uint64, c_char_p, c_size_t, POINTER(c_size_t)],
+    "utxo_learn": [c_uint64, c_char_p, c_size_t, c_char_p, c_size_t, c_char_p, c_int],
+    "connect": [c_uint64, c_char_p, c_size_t, POINTER(Setting), POINTER(Fault)],
+    "disconnect": [c_uint64],
+    "check_tx_inputs": [c_uint64, c_char_p, c_size_t, c_uint32, POINTER(c_uint32), POINTER(c_int64)],
 }
 
 
@@ -68,13 +90,13 @@ def _places() -> Iterator[str]:
     try:
         asked = ["pkg-config", "--variable=libdir", "wakotehu"]
         folder = subprocess.run(asked, capture_output=True, text=True, check=True).stdout.strip()
-        yield os.path.join(folder, "libwakotehu.so")
+        yield os.path.join(folder, "libwakotehu.so.0")
     except (OSError, subprocess.CalledProcessError):
         pass
     found = ctypes.util.find_library("wakotehu")
     if found:
         yield found
-    yield "/usr/local/lib/libwakotehu.so"
+    yield "/usr/local/lib/libwakotehu.so.0"
 
 
 _loaded: Optional[ctypes.CDLL] = None
@@ -85,13 +107,13 @@ def library() -> ctypes.CDLL:
     """The library, with its calls' types.
 
     It is looked for where WAKOTEHU_LIBRARY names it, and nowhere else then; else in the package, by pkg-config, where
-    the linker looks, and in /usr/local/lib.
+    the linker looks, and in /usr/local/lib: there the build for the machine's processor, where one is beside the default.
     """
     global _loaded
     if _loaded is not None:
         return _loaded
     named = os.environ.get("WAKOTEHU_LIBRARY")
-    for place in [named] if named else _places():
+    for place in [named] if named else map(chosen, _places()):
         try:
             loaded = ctypes.CDLL(place)
         except OSError as error:
@@ -113,7 +135,7 @@ def secp256k1_library() -> Optional[ctypes.CDLL]:
     """The library beside it that tests signatures; None where either isn't there, or libsecp256k1 isn't."""
     try:
         # Without a folder the linker looks for it, as it did for the other one.
-        loaded = ctypes.CDLL(os.path.join(os.path.dirname(library()._name), _SECP256K1))
+        loaded = ctypes.CDLL(os.path.join(home(library()._name), _SECP256K1))
     except (LibraryMissing, OSError):
         return None
     call = loaded.wakotehu_secp256k1_verdicts

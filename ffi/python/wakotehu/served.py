@@ -10,6 +10,7 @@ from typing import IO, Any, Callable, Dict, Generic, List, NamedTuple, Optional,
 from . import arguments, errors
 from .arguments import Path, id_of, number, octets
 from .chainstate import REGTEST, BlockHeader, Coin, Reply, Tip, mark_of, moment_of, read_heights, show
+from .processor import chosen
 from .signatures import Verify
 
 T = TypeVar("T")
@@ -337,7 +338,8 @@ def outcome(answer: Dict[str, Any], call: Call) -> Any:
 
 def program_path(named: Optional[Path] = None) -> str:
     """The program: the one that is named, or that WAKOTEHU_PROGRAM names, and no other then; else `regchain` in the
-    package, beside the library that WAKOTEHU_LIBRARY names, or on the path."""
+    package, or beside the library that WAKOTEHU_LIBRARY names, there the build for the machine's processor where it has one,
+    or on the path."""
     given = os.environ.get("WAKOTEHU_PROGRAM") if named is None else arguments.path(named, "named")
     if given:
         if not os.access(given, os.X_OK) or os.path.isdir(given):
@@ -349,7 +351,7 @@ def program_path(named: Optional[Path] = None) -> str:
     for folder in folders:
         place = os.path.join(folder, "regchain")
         if os.access(place, os.X_OK) and not os.path.isdir(place):
-            return place
+            return chosen(place)
     found = shutil.which("regchain")
     if found is None:
         raise errors.ProgramMissing("regchain isn't found: set WAKOTEHU_PROGRAM, or build it by ./build")

@@ -9,11 +9,11 @@ HERE = Path(__file__).resolve()
 ROOT = HERE.parents[3]
 sys.path += [str(ROOT / "tests/core"), str(ROOT / "ffi/python")]
 
-import bitcoin.core as lib  # noqa: E402
-import bitcoin.core.key as lib_key  # noqa: E402
-import bitcoin.core.script as lib_script  # noqa: E402
-import bitcoin.core.scripteval as lib_eval  # noqa: E402
-from core.peer import GENESIS_ID, Peer, PeerError, has_work  # noqa: E402
+import bitcoin.core as lib  # type: ignore  # noqa: E402
+import bitcoin.core.key as lib_key  # type: ignore  # noqa: E402
+import bitcoin.core.script as lib_script  # type: ignore  # noqa: E402
+import bitcoin.core.scripteval as lib_eval  # type: ignore  # noqa: E402
+from core.peer import GENESIS_ID, Peer as Peer, PeerError, has_work  # noqa: E402
 from wakotehu.consensus import Triple  # noqa: E402
 from wakotehu.signatures import Secp256k1  # noqa: E402
 

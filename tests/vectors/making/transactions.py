@@ -3,7 +3,7 @@
 import random
 from typing import Any, Dict, Iterator, List, Tuple
 
-import bitcoin.core.serialize as lib_serialize
+import bitcoin.core.serialize as lib_serialize  # type: ignore
 
 from .asking import HAND, hexed, unhexed
 from .outside import CORE, FINAL, LIB, REASONS, Chain, Disagree, core_reads, lib_fault, lib_tx

@@ -138,7 +138,7 @@ not_twice t h =
     let h2 = tail_clear (length t.outputs == 0) NoOutputs outputs h1 in
     head_clear (has_twice (prevs t.inputs)) DuplicateInputs middle (both_clear (output_rules [] t.outputs) twice h2).1
 
-lawful_one : (t : Tx) → first_broken (tx_rules t) ≡ None → length t.inputs + length t.outputs ≤ 1000000 → IsLawful t
+pub lawful_one : (t : Tx) → first_broken (tx_rules t) ≡ None → length t.inputs + length t.outputs ≤ 1000000 → IsLawful t
 lawful_one t h short = record {
   inputs = omega (arith, short);
   outputs = omega (arith, short);

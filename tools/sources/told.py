@@ -2,10 +2,11 @@
 
 import re
 from enum import Enum
-from typing import Iterator, NamedTuple
+from typing import Dict, Iterator, List, NamedTuple
 
-from alone import Laid
-from edits import Batch, asked, lines_of
+from .alone import Laid
+from .edits import Batch, asked, lines_of
+from .repository import text_of
 
 # A proof that names what an edit took away is refused whatever the contract says.
 NAMES = re.compile(r"(has no field|is not in scope|has no `|was not admitted|: record `[^`]*` \(nearest: )")
@@ -38,12 +39,12 @@ class Found(NamedTuple):
 class Said:
     """What a check printed of the functions of a batch."""
 
-    def __init__(self, laid: Laid, lines: "list[str]") -> None:
+    def __init__(self, laid: Laid, lines: List[str]) -> None:
         self.laid, self.lines = laid, lines
         told = (re.match(r"fn ([^ ]+): (.*)", it) for it in lines)
         self.functions = {it[1].replace("+", ""): it[2] for it in told if it}
 
-    def verdicts(self, batch: Batch) -> "dict[str, Found]":
+    def verdicts(self, batch: Batch) -> Dict[str, Found]:
         """What became of each edit, and why: one function that is refused suffices, and a twin passes where all do.
 
         One that calls a function of the batch that isn't proved, and has no open goal of its own, isn't judged.
@@ -58,8 +59,7 @@ class Said:
 
     def of(self, crate: str, source: str, name: str) -> Found:
         """What is said of one function."""
-        with open(f"{self.laid.room}/{crate}/{source}", encoding="utf-8") as file:
-            text = file.read()
+        text = text_of(f"{self.laid.room}/{crate}/{source}")
         path = asked(crate, source, text, name).replace("+", "")
         said = [it for of, it in self.functions.items() if of == path or "::" not in path and of.endswith(f"::{path}")]
         if len(said) != 1:
@@ -82,18 +82,18 @@ class Said:
             return Found(Verdict.BY_NAMES, own[0])
         return Found(Verdict.REFUSED if SEARCHED in said[0] else Verdict.UNTRIED, said[0])
 
-    def goals(self, crate: str, source: str, span: range) -> "Iterator[str]":
+    def goals(self, crate: str, source: str, span: range) -> Iterator[str]:
         """The lines on goals that are open at a place of the function's text."""
         for line in self.lines:
             at = re.match(r"note: (\S+?):(\d+):\d+: ", line)
             if at and at[1] == f"{self.laid.room}/{crate}/{source}" and int(at[2]) in span and "not proved" in line:
                 yield line.replace(f"{self.laid.room}/", "")
 
-    def errors(self, crate: str, path: str) -> "Iterator[str]":
+    def errors(self, crate: str, path: str) -> Iterator[str]:
         """The lines on what is refused in the files of its proof."""
         folder = f"{self.laid.room}/{crate}/proofs/" + path.partition("::")[2].replace("::", "/")
         for line in self.lines:
-            if line.removeprefix("note: ").replace("+", "").startswith(f"{folder}/") and ": error" in line:
+            if re.sub("^note: ", "", line).replace("+", "").startswith(f"{folder}/") and ": error" in line:
                 yield line.replace(f"{self.laid.room}/", "")
 
 
@@ -103,7 +103,7 @@ def module_of(path: str) -> str:
     return f"`Rattle.{crate}.proofs.{rest.replace('::', '.')}.Proof."
 
 
-def seen_beside_twins(found: "dict[str, Found]", twins: "dict[str, Found]") -> "dict[str, Found]":
+def seen_beside_twins(found: Dict[str, Found], twins: Dict[str, Found]) -> Dict[str, Found]:
     """The same, where a twin is known: a refusal counts where the twin passes, also by a proof by hand or at a limit."""
     told = {}
     for name, it in found.items():

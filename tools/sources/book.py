@@ -3,29 +3,18 @@ clauses of a door's public calls reach."""
 import json
 import os
 import re
-from typing import Any, Dict, Iterator, List, NamedTuple, Optional, Protocol, Set, Tuple
+from typing import Any, Dict, Iterator, List, NamedTuple, Optional, Set, Tuple
 
-ROOT = os.path.dirname(os.path.dirname(os.path.realpath(__file__)))
-# A module, as `use` lines name it, and a name in it.
-Module = Tuple[str, ...]
-Name = Tuple[Module, str]
-
-
-class Spec(Protocol):
-    """A file of definitions, as docs/believe reads it: what its `use` lines bring, at which line, from 0, the head of each
-    definition stands, and of what stands in a module with parameters the line of that."""
-
-    names: "Dict[str, Tuple[Module, Optional[str]]]"
-    heads: Dict[str, int]
-    under: Dict[str, int]
-
+from . import repository
+from .definitions import Name, Spec, Specs, module_of, without_comments
+from .repository import read
 
 class Reached(NamedTuple):
     """What a door's clauses reach, and what stands beside it."""
 
     door: str
     order: List[str]
-    specs: "Dict[Module, Spec]"
+    specs: Specs
     names: "Set[Name]"
     # what each of these cites, types and names of other repositories among it
     cites: "Dict[Name, List[Name]]"
@@ -53,12 +42,6 @@ class Section(NamedTuple):
     language: str
     pieces: List[Piece]
     text: List[str]
-
-
-def read(path: str) -> str:
-    """A file of the repository."""
-    with open(f"{ROOT}/{path}", encoding="utf-8") as file:
-        return file.read()
 
 
 # ---- definitions
@@ -102,7 +85,7 @@ def begin_of(lines: List[str], head: int) -> int:
 def other_names(spec: Spec, pieces: List[Piece], several: "Set[str]") -> str:
     """What the names stand for that a file's `use` lines give to modules, to what has another name elsewhere, and to one of
     several definitions of a name."""
-    shown = "\n".join(re.sub(r"(^|\s)--.*", "", line) for piece in pieces for line in piece.lines)
+    shown = "\n".join(without_comments(line) for piece in pieces for line in piece.lines)
     told = []
     for name, (module, real) in sorted(spec.names.items()):
         path = f"`{'.'.join(module)}`" if module[-1] != "TheVariants" else f"a case of `{module[-2]}`"
@@ -183,12 +166,12 @@ def ordered_types(lines: List[str], names: "Set[str]") -> List[Piece]:
 # ---- the order
 
 
-def file_of(name: Name, specs: "Dict[Module, Spec]") -> Optional[str]:
+def file_of(name: Name, specs: Specs) -> Optional[str]:
     """The file, below crates/, of a definition or of a type."""
     if name[0] in specs:
         return "/".join(name[0]) + ".antt"
     told = type_of(name)
-    return told[0] if told and os.path.isfile(f"{ROOT}/crates/{told[0]}") else None
+    return told[0] if told and os.path.isfile(f"{repository.ROOT}/crates/{told[0]}") else None
 
 
 def ordered_files(given: Reached) -> List[str]:
@@ -236,7 +219,7 @@ def sections_of(given: Reached) -> List[Section]:
         lines = read(f"crates/{path}").split("\n")
         title = os.path.splitext(path.split("/", 2)[2])[0]
         if path.endswith(".antt"):
-            spec = given.specs[tuple(path[:-len(".antt")].split("/"))]
+            spec = given.specs[module_of(path)]
             pieces = list(pieces_of(lines, spec, shown.get(path, set())))
             words = f"{first_comment(lines, '--')} {other_names(spec, pieces, several)}".strip()
             found.append(Section(path, title, words, "antt", pieces, lines))
