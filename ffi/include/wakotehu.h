@@ -505,7 +505,8 @@ wakotehu_code wakotehu_verify_known(const uint8_t *bytes, size_t length, uint64_
                                     size_t valid_length, const char *invalid, size_t invalid_length, uint64_t *line,
                                     uint32_t *accepted, char *asked, size_t room, uint64_t *needed);
 
-/* An element of a script has at most 520 bytes, so no line of a key, a signature and a digest is longer. */
+/* An element that a script pushes has at most 520 bytes, so no line of a key, a signature and a digest is longer, unless a
+ * stack that is given to wakotehu_eval_script has longer ones. */
 #define WAKOTEHU_MOST_ASKED 2145
 
 /* Why a script fails: Bitcoin Core's names and numbers (ScriptError) of the rules before segregated witness. */
