@@ -1,5 +1,6 @@
 /* A target: a chainstate. Blocks are made over mined ones, with coins of many scripts, and submitted, marked and submitted
- * again. After each command the reply and the active block are compared with the reading's, at the end tips and coins. */
+ * again. After each command the reply and the active block are compared with the reading's, at the end tips and coins. Of
+ * some cases the last block is connected once more, to coins that are given. */
 #include "grammar.hpp"
 #include "library.hpp"
 
@@ -57,8 +58,15 @@ Bytes of_digits(const std::string &digits) {
     return bytes;
 }
 
+/* A handle that asks for signatures: of a chainstate, or of a set of coins. */
+struct Door {
+    uint64_t handle;
+    wakotehu_code (*wants)(uint64_t, wakotehu_want_call, void *);
+    wakotehu_code (*learn)(uint64_t, const uint8_t *, size_t, const uint8_t *, size_t, const uint8_t *, int);
+};
+
 /* Finds out whether a signature of a table's line is valid, and hands that in. The line begins with a newline. */
-void learn(const Pair &pair, const std::string &table) {
+void learn(const Pair &pair, const Door &door, const std::string &table) {
     const std::string line = table.substr(1);
     const size_t first = line.find(' '), second = line.find(' ', first + 1);
     const Bytes key = of_digits(line.substr(0, first)), digits = of_digits(line.substr(second + 1));
@@ -68,27 +76,33 @@ void learn(const Pair &pair, const std::string &table) {
     std::copy(digits.begin(), digits.end(), digest.begin());
     const bool valid = is_valid(pair.policy, key, signature, digest);
     compare("wakotehu_learn",
-            wakotehu_learn(pair.library, key.data(), key.size(), signature.data(), signature.size(), digest.data(), valid),
+            door.learn(door.handle, key.data(), key.size(), signature.data(), signature.size(), digest.data(), valid),
             WAKOTEHU_OK, told(pair));
 }
 
-using Command = std::function<wakotehu_code(wakotehu_answer *)>;
-
-/* Makes a command again until no signature is unknown. */
-wakotehu_answer answered(const Pair &pair, const Command &command) {
-    wakotehu_answer answer = {};
+/* Makes a call again until no signature is unknown. */
+wakotehu_code until_known(const Pair &pair, const Door &door, const std::function<wakotehu_code()> &call) {
     wakotehu_code code;
-    while ((code = command(&answer)) == WAKOTEHU_WANTS) {
+    while ((code = call()) == WAKOTEHU_WANTS) {
         std::vector<std::string> lines;
         const auto keep = [](void *context, const char *line, size_t length) {
             static_cast<std::vector<std::string> *>(context)->emplace_back(line, length);
             return 0;
         };
-        compare("wakotehu_wants", wakotehu_wants(pair.library, keep, &lines), WAKOTEHU_OK, told(pair));
+        compare("the wants", door.wants(door.handle, keep, &lines), WAKOTEHU_OK, told(pair));
         compare("signatures are wanted", !lines.empty(), true, told(pair));
         for (const std::string &line : lines)
-            learn(pair, line);
+            learn(pair, door, line);
     }
+    return code;
+}
+
+using Command = std::function<wakotehu_code(wakotehu_answer *)>;
+
+wakotehu_answer answered(const Pair &pair, const Command &command) {
+    const Door door = {pair.library, wakotehu_wants, wakotehu_learn};
+    wakotehu_answer answer = {};
+    const wakotehu_code code = until_known(pair, door, [&] { return command(&answer); });
     compare("the command's code", code, WAKOTEHU_OK, told(pair));
     return answer;
 }
@@ -165,7 +179,9 @@ void compare_tips(Pair &pair) {
     compare("tips", library, own, told(pair));
 }
 
-void compare_coins(Pair &pair) {
+using Walk = wakotehu_code (*)(uint64_t, wakotehu_coin_call, void *);
+
+void compare_coins(const Pair &pair, uint64_t handle, Walk walk, const Coins &own) {
     Coins found;
     const auto keep = [](void *context, const uint8_t *id, uint32_t index, const wakotehu_coin *coin, const uint8_t *script) {
         Id own{};
@@ -174,7 +190,7 @@ void compare_coins(Pair &pair) {
                                                           coin->coinbase != 0};
         return 0;
     };
-    compare("wakotehu_coins", wakotehu_coins(pair.library, keep, &found), WAKOTEHU_OK, told(pair));
+    compare("the walk over coins", walk(handle, keep, &found), WAKOTEHU_OK, told(pair));
     const auto text = [](const Coins &coins) {
         std::string lines;
         for (const auto &[outpoint, coin] : coins)
@@ -182,13 +198,72 @@ void compare_coins(Pair &pair) {
                      std::to_string(coin.height) + " " + std::to_string(coin.is_coinbase) + " " + hex(coin.script) + "\n";
         return lines;
     };
-    const Coins &own = *pair.reading.coins_after(pair.reading.active());
     const auto same = [](const Coins::value_type &one, const Coins::value_type &other) {
         return one.first == other.first && one.second.value == other.second.value && one.second.script == other.second.script &&
                one.second.height == other.second.height && one.second.is_coinbase == other.second.is_coinbase;
     };
     if (own.size() != found.size() || !std::equal(own.begin(), own.end(), found.begin(), same))
         compare("coins", text(found), text(own), told(pair));
+}
+
+/* ---- The same block over given coins */
+
+wakotehu_utxo given(const Pair &pair, const Coins &coins) {
+    wakotehu_utxo set = 0;
+    compare("wakotehu_utxo_open", wakotehu_utxo_open(&set), WAKOTEHU_OK, told(pair));
+    for (const auto &[outpoint, coin] : coins) {
+        const wakotehu_coin row = {coin.value, coin.script.size(), coin.height, coin.is_coinbase};
+        compare("wakotehu_utxo_put", wakotehu_utxo_put(set, outpoint.id.data(), outpoint.index, &row, coin.script.data()),
+                WAKOTEHU_OK, told(pair));
+    }
+    return set;
+}
+
+void compare_inputs(const Pair &pair, wakotehu_utxo set, const Tx &tx, uint32_t height, const Coins &coins) {
+    const Bytes bytes = write(tx);
+    uint32_t reason = 0;
+    int64_t fee = 0, own_fee = 0;
+    const wakotehu_code code = wakotehu_check_tx_inputs(set, bytes.data(), bytes.size(), height, &reason, &fee);
+    const std::string own = reading::inputs_fault(tx, height, coins, own_fee);
+    compare("wakotehu_check_tx_inputs", code, WAKOTEHU_OK, told(pair));
+    compare("the fault of inputs", wakotehu_reason_text(reason), own, told(pair));
+    if (own.empty())
+        compare("the fee", uint64_t(fee), uint64_t(own_fee), told(pair));
+}
+
+/* There and back, where a kept block with coins is its parent. */
+void connect_given(Pair &pair, const Bytes &bytes, const reading::Heights &heights) {
+    Block block;
+    if (reading::read_block(bytes, block) != reading::Fault::none)
+        return;
+    const size_t parent = pair.reading.find(block.header.parent);
+    const auto before = parent == reading::NOWHERE ? nullptr : pair.reading.coins_after(parent);
+    if (!before)
+        return;
+    Coins after = *before;
+    const uint32_t height = pair.reading.kept[parent].height + 1;
+    const reading::Refusal own = pair.reading.connected(block, bytes.size(), parent, after);
+    std::vector<uint32_t> medians;
+    for (uint32_t at = 0; at < height; at++)
+        medians.push_back(pair.reading.median_time_past(pair.reading.ancestor(parent, at)));
+    const wakotehu_setting setting = {medians.data(), medians.size(), {heights.bip34, heights.bip65, heights.bip66, heights.csv},
+                                      height, medians.back()};
+    pair.story += "\nconnected once more: " + hex(bytes);
+    const wakotehu_utxo set = given(pair, *before);
+    for (const Tx &tx : block.txs)
+        compare_inputs(pair, set, tx, height, *before);
+    wakotehu_fault fault = {};
+    const Door door = {set, wakotehu_utxo_wants, wakotehu_utxo_learn};
+    const wakotehu_code code =
+        until_known(pair, door, [&] { return wakotehu_connect(set, bytes.data(), bytes.size(), &setting, &fault); });
+    compare("wakotehu_connect", code, WAKOTEHU_OK, told(pair));
+    compare("the fault", shown("", wakotehu_reason_text(fault.reason), fault.transaction, fault.input),
+            shown("", own.reason, own.tx, own.input), told(pair));
+    const bool connects = own.reason.empty();
+    compare_coins(pair, set, wakotehu_utxo_coins, connects ? after : *before);
+    compare("wakotehu_disconnect", wakotehu_disconnect(set), connects ? WAKOTEHU_OK : WAKOTEHU_NONE, told(pair));
+    compare_coins(pair, set, wakotehu_utxo_coins, *before);
+    compare("wakotehu_utxo_close", wakotehu_utxo_close(set), WAKOTEHU_OK, told(pair));
 }
 
 /* ---- Scripts of coins, and what spends them */
@@ -496,7 +571,9 @@ int LLVMFuzzerTestOneInput(const uint8_t *bytes, size_t length) {
     for (int steps = 0; steps < 8 && !source.ended(); steps++)
         step(pair, base, source);
     compare_tips(pair);
-    compare_coins(pair);
+    compare_coins(pair, pair.library, wakotehu_coins, *pair.reading.coins_after(pair.reading.active()));
+    if (pair.made.size() % 2)
+        connect_given(pair, pair.made.back(), base.heights);
     wakotehu_close(pair.library);
     return 0;
 }

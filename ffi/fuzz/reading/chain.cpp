@@ -18,8 +18,6 @@
 
 namespace reading {
 
-constexpr size_t NOWHERE = SIZE_MAX;
-
 Chain::Chain(const Heights &heights, const Bytes &genesis) : heights(heights) {
     auto block = std::make_shared<Block>();
     read_block(genesis, *block);
@@ -283,6 +281,32 @@ Refusal Chain::connect(const Block &block, size_t parent, uint32_t height, Coins
         }
     MET("connect: a block that connects");
     return {};
+}
+
+Refusal Chain::connected(const Block &block, uint64_t size, size_t parent, Coins &coins) const {
+    if (const Reason reason = fault_alone(block, size); *reason)
+        return {reason};
+    return connect(block, parent, kept[parent].height + 1, coins);
+}
+
+Reason inputs_fault(const Tx &tx, uint32_t height, const Coins &coins, int64_t &fee) {
+    if (const Reason reason = fault_alone(tx); *reason)
+        return reason;
+    fee = 0;
+    if (!tx.is_coinbase()) {
+        for (const Input &input : tx.inputs)
+            if (!coins.count(input.spent))
+                return "bad-txns-inputs-missingorspent";
+        for (const Input &input : tx.inputs) {
+            const Coin &coin = coins.at(input.spent);
+            if (coin.is_coinbase && height - coin.height < COINBASE_MATURITY)
+                return "bad-txns-premature-spend-of-coinbase";
+            fee += coin.value;
+        }
+    }
+    for (const Output &output : tx.outputs)
+        fee -= output.value;
+    return !tx.is_coinbase() && fee < 0 ? "bad-txns-in-belowout" : "";
 }
 
 } // namespace reading

@@ -32,6 +32,11 @@ struct Reply {
     Refusal refusal;
 };
 
+constexpr size_t NOWHERE = SIZE_MAX;
+
+/* What a transaction breaks by itself, or by the coins that it spends in a block of this height; else its fee. */
+Reason inputs_fault(const Tx &tx, uint32_t height, const Coins &coins, int64_t &fee);
+
 class Chain {
   public:
     Chain(const Heights &heights, const Bytes &genesis);
@@ -59,10 +64,13 @@ class Chain {
     std::shared_ptr<const Coins> coins_after(size_t block);
     uint32_t median_time_past(size_t block) const;
     std::string status(size_t block);
-
-  private:
+    /* The place of a kept block, or NOWHERE, and of the block at a height of its branch. */
     size_t find(const Id &id) const;
     size_t ancestor(size_t block, uint32_t height) const;
+    /* What a block breaks by itself, or over the coins of a kept one, which become those after it. Its place isn't asked. */
+    Refusal connected(const Block &block, uint64_t size, size_t parent, Coins &coins) const;
+
+  private:
     bool is_usable(size_t block) const;
     bool beats(size_t one, size_t other) const;
     std::vector<size_t> branch(size_t block) const;
