@@ -339,8 +339,8 @@ ROWS = [
 #: needs a database (tests/replicas has its arguments); what pytest calls (test_testing has its own).
 OTHER = {
     "ahead", "arguments", "asyncreplica", "benches", "errors", "following", "history", "index", "mempool", "nodebench", "pipe",
-    "replica", "replicabench", "replicacommand", "replicalog", "replication", "server", "stage", "testing", "vectors", "version",
-    "__main__",
+    "processor", "replica", "replicabench", "replicacommand", "replicalog", "replication", "server", "stage", "testing", "vectors",
+    "version", "__main__",
 }  # fmt: skip
 #: What other modules of the package call with what was taken before.
 INSIDE = {"addresses.base58", "addresses.data_of", "chainstate.reply_of"} | {
