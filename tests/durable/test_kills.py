@@ -47,6 +47,10 @@ class Kills(KeepingTest):
                 os.remove(self.path(f"data/{name}"))
             keeping = Keeping(self.folder, clients)
             keeping.run()
+            # On a busy machine it may take its time to begin.
+            until = time.monotonic() + 60
+            while not any(client.told for client in clients) and time.monotonic() < until:
+                time.sleep(0.01)
             time.sleep(0.1)
             keeping.stops = True
             keeping.process.send_signal(number)
