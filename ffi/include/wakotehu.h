@@ -303,7 +303,7 @@ wakotehu_code wakotehu_connect(wakotehu_utxo utxo, const uint8_t *block, size_t 
                                wakotehu_fault *fault);
 
 /* Takes back the block that was connected last (DisconnectBlock): the set has the coins from before it. WAKOTEHU_NONE where
- * there is none, where it was taken back, and where a coin was put in since. */
+ * no block was connected, where it was taken back already, and where a coin was put in since. */
 wakotehu_code wakotehu_disconnect(wakotehu_utxo utxo);
 
 /* The coins that this block spent, its undo data, as wakotehu_spent has them of an active one. */

@@ -202,7 +202,7 @@ static void misused(void) {
     EXPECT(wakotehu_check_tx_inputs(utxo, right.bytes + right.tx, 9, HEIGHT, &reason, &fee) == WAKOTEHU_SHORT);
     EXPECT(reason == 7 && fee == 7 && wakotehu_utxo_coins(utxo, NULL, NULL) == WAKOTEHU_NULL);
     EXPECT(wakotehu_utxo_want_lines(utxo, NULL, 0, &needed) == WAKOTEHU_OK && needed == 0);
-    /* A handle of a chainstate is none of a set. */
+    /* A chainstate's handle doesn't name a set. */
     wakotehu_handle chain = 0;
     EXPECT(wakotehu_open_by_need(&chain, &setting.heights) == WAKOTEHU_OK && wakotehu_utxo_close(utxo) == WAKOTEHU_OK);
     wakotehu_utxo wrong[] = {0, 1, 255, UINT64_MAX, utxo, utxo + 1, utxo + 256, chain};

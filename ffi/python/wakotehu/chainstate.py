@@ -213,7 +213,7 @@ class _Held:
         return walk.found
 
     def _spent(self, name: str, *words: object) -> Optional[List[Coin]]:
-        """The coins that a block spent, or None where there is none of which that is told."""
+        """The coins that a block spent, or None where the call answers that there is no such block."""
         size, coins, scripts = _SpentSize(), (_Coin * 16)(), ctypes.create_string_buffer(1024)
         for _ in range(2):
             room = coins, len(coins), scripts, len(scripts)

@@ -76,8 +76,8 @@ class CoinSet(_Held):
         return Fault(errors.REASONS[fault.reason], fault.transaction, fault.input) if fault.reason else None
 
     def disconnect(self) -> bool:
-        """Takes back the block that was connected last. False where there is none, where it was taken back, and where a coin
-        was put in since."""
+        """Takes back the block that was connected last. False where no block was connected, where it was taken back already, and
+        where a coin was put in since."""
         code = self._library.wakotehu_disconnect(self._handle)
         if code == 4:
             return False
