@@ -139,7 +139,7 @@ typedef struct {
 wakotehu_code wakotehu_open(wakotehu_handle *handle, const wakotehu_heights *heights, const char *table,
                             size_t length, uint64_t *line);
 
-/* The same, but no table says which signatures are valid: they are found out by need. A command whose scripts ask for
+/* The same, but no table says which signatures are valid: they are verified by need. A command whose scripts ask for
  * signatures of which nothing is known is answered WAKOTEHU_WANTS. It is no command then: nothing has changed. The caller
  * asks by wakotehu_wants or wakotehu_want_lines for all at which a script of the block stops, finds out whether they are
  * valid, hands the verdicts in by wakotehu_learn, and makes the same call again. No verdict changes a reply that was
@@ -259,7 +259,7 @@ wakotehu_code wakotehu_coins(wakotehu_handle handle, wakotehu_coin_call call, vo
 /* ---- Coins that are given: blocks and transactions over a set of coins of the caller's own, apart from any chainstate.
  * Such a set has no blocks below it: it takes the caller's word for where a block stands.
  *
- * One call at a time uses a set, as a handle. Signatures are found out by need, as of wakotehu_open_by_need. */
+ * One call at a time uses a set, as a handle. Signatures are verified by need, as of wakotehu_open_by_need. */
 typedef uint64_t wakotehu_utxo;
 
 /* Where a block is connected: its height; the median time past of its parent; the medians time past of its parent's branch

@@ -257,7 +257,7 @@ class AsyncSeat:
         return outcome(await self.node._opened().begun(call, self.number), call)
 
     async def _command(self, call: Call) -> Any:
-        """As `Seat._command`. Signatures are found out by a thread of the event loop's."""
+        """As `Seat._command`. Signatures are verified by a thread of the event loop's."""
         while True:
             try:
                 return await self._ask(call)

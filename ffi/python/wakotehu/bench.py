@@ -162,7 +162,7 @@ class Bench(Walks):
         return self._taken(step, lambda: self.chain._submit_into(step.answer, spelled.data, now))
 
     def judge(self, block: bytes, now: Optional[int] = None) -> Reply:
-        """As `Chainstate.judge`. Signatures that it asks for are found out, and stay known."""
+        """As `Chainstate.judge`. Signatures that it asks for are verified, and stay known."""
         data, moment = octets(block, "block"), moment_of(now)
         try:
             spelled = block_at_front(data)

@@ -25,7 +25,7 @@ class CoinSet(_Held):
     """Coins of one's own, each as the id of a transaction, an output's number, and the coin. Blocks are connected to them,
     and transactions checked. The set takes the caller's word for where a block stands.
 
-    Signatures are found out by need: `connect` raises `Wants`, and has no effect; `learn` takes what was found out, and the
+    Signatures are verified by need: `connect` raises `Wants`, and has no effect; `learn` takes the verdicts, and the
     call is made again. One thread at a time may be inside a call: another one is refused with `Busy`.
 
         with CoinSet([(id, 0, Coin(5000, b"\\x51", 7, False))]) as coins:

@@ -37,7 +37,7 @@ class Pool:
     the active branch had waits again.
 
     Whether one may wait is for the chainstate to say, by a dry run: its journal and its blocks stay as they are. Signatures
-    that this asks for are found out, and stay known.
+    that this asks for are verified, and stay known.
 
     bench: each step that it takes is taken up when the pool is used next.
     most: how many bytes may wait.

@@ -142,7 +142,7 @@ class ReplicaSeat:
         return self._read(lambda seat: seat.getblockhash(height))
 
     def judge(self, block: bytes, now: Optional[int] = None) -> Placed[Reply]:
-        """As `Seat.judge`. It has no row; the signatures for which it asks are found out here."""
+        """As `Seat.judge`. It has no row; the signatures for which it asks are verified here."""
         call = dry_run(block, now)
 
         def ask(seat: Seat) -> Stamped[Reply]:
