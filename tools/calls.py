@@ -28,7 +28,7 @@ WAY = [
     ("activate/src/core_state/preparing.rt", "Core::prepare"),
     ("activate/src/core_state/settling.rt", "Core::settle_new"),
     ("activate/src/branch_try.rt", "ActiveBranch::try_new_block"),
-    ("connect/src/connecting.rt", "connect_in_layer"),
+    ("connect/src/connecting.rt", "apply_in_layer"),
     ("connect/src/connecting.rt", "connect_txs"),
     ("connect/src/connecting.rt", "connect_others"),
     ("connect/src/turn.rt", "connect_tx"),

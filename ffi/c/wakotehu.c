@@ -39,6 +39,13 @@ struct question {
     uint32_t flags;
 };
 
+/* The same by verdicts that are kept. */
+struct known_question {
+    uint64_t input;
+    struct bytes spent;
+    uint32_t flags;
+};
+
 struct told {
     uint64_t line, count;
     uint32_t error;
@@ -118,6 +125,8 @@ uint32_t ffi_tx_verify_input(struct slot *slot, const struct question *question,
                              size_t room);
 uint32_t ffi_tx_verify(struct slot *slot, const struct all_asked *question, struct all_told *told, uint8_t *asked,
                        size_t room);
+uint32_t ffi_tx_verify_input_known(struct slot *slot, struct slot *set, const struct known_question *question,
+                                   struct told *told, uint8_t *asked, size_t room);
 
 _Static_assert(sizeof(struct slot) == 16 && offsetof(struct slot, at) == 8, "as Slot, TxSlot and UtxoSlot of crates/ffi");
 _Static_assert(sizeof(struct question) == 64 && offsetof(struct question, flags) == 56, "as InputQuestion");
@@ -749,6 +758,30 @@ wakotehu_code wakotehu_connect(wakotehu_utxo utxo, const uint8_t *block, size_t 
 wakotehu_code wakotehu_disconnect(wakotehu_utxo utxo) {
     wakotehu_code code = enter_set(utxo);
     return code != WAKOTEHU_OK ? code : leave_set(utxo, ffi_disconnect(set_of(utxo)));
+}
+
+wakotehu_code wakotehu_tx_verify_input_known(wakotehu_tx tx, wakotehu_utxo known, uint64_t input, const uint8_t *spent,
+                                             size_t spent_length, uint32_t flags, uint32_t *error, char *asked,
+                                             size_t room, uint64_t *needed) {
+    struct known_question question = {input, bytes_of(spent, spent_length), flags};
+    struct told told = {0, 0, 0};
+    uint8_t none[1];
+    if (!readable(spent, spent_length) || !error || !readable(asked, room) || !needed)
+        return WAKOTEHU_NULL;
+    struct parsed *own = parsed_at(tx);
+    wakotehu_code code = enter_place(&own->word, tx >> 16);
+    if (code != WAKOTEHU_OK)
+        return code;
+    code = enter_set(known);
+    if (code == WAKOTEHU_OK)
+        code = leave_set(known, ffi_tx_verify_input_known(&own->slot, set_of(known), &question, &told,
+                                                          room ? (uint8_t *)asked : none, room));
+    atomic_store(&own->word, word_of(tx >> 16, OPEN));
+    if (code == WAKOTEHU_OK)
+        *error = told.error;
+    if (code == WAKOTEHU_UNKNOWN || code == WAKOTEHU_TOO_SMALL)
+        *needed = told.count;
+    return code;
 }
 
 wakotehu_code wakotehu_check_tx_inputs(wakotehu_utxo utxo, const uint8_t *bytes, size_t length, uint32_t height,

@@ -15,6 +15,7 @@ using reading::Block;
 using reading::Chain;
 using reading::Coins;
 using reading::Id;
+using reading::Input;
 using reading::Tx;
 using reading::hex;
 
@@ -158,8 +159,9 @@ std::vector<size_t> tips(Chain &chain) {
     for (size_t n = 1; n < chain.kept.size(); n++)
         has_child[chain.kept[n].parent] = true;
     std::vector<size_t> found;
+    const size_t active = chain.active();
     for (size_t n = 0; n < chain.kept.size(); n++)
-        if (!has_child[n] || n == chain.active())
+        if (!has_child[n] || n == active)
             found.push_back(n);
     const auto higher = [&](size_t one, size_t other) { return chain.kept[one].height > chain.kept[other].height; };
     std::stable_sort(found.begin(), found.end(), higher);
@@ -181,29 +183,44 @@ void compare_tips(Pair &pair) {
 
 using Walk = wakotehu_code (*)(uint64_t, wakotehu_coin_call, void *);
 
+/* Where a walk over the library's coins stands in the reading's. */
+struct Walked {
+    const Pair &pair;
+    Coins::const_iterator next, end;
+};
+
+std::string shown_coin(const Walked &walked) {
+    if (walked.next == walked.end)
+        return "none";
+    const auto &[outpoint, coin] = *walked.next;
+    return hex(outpoint.id) + " " + std::to_string(outpoint.index) + " " + std::to_string(coin.value) + " " +
+           std::to_string(coin.height) + " " + std::to_string(coin.is_coinbase) + " " + hex(coin.script);
+}
+
+/* The coin that is met is the reading's next. */
+int meet_coin(void *context, const uint8_t *id, uint32_t index, const wakotehu_coin *coin, const uint8_t *script) {
+    Walked &walked = *static_cast<Walked *>(context);
+    const auto is_next = [&] {
+        const auto &[outpoint, own] = *walked.next;
+        return std::equal(outpoint.id.begin(), outpoint.id.end(), id) && outpoint.index == index && own.value == coin->value &&
+               own.height == coin->height && own.is_coinbase == (coin->coinbase != 0) && own.script.size() == coin->script &&
+               std::equal(own.script.begin(), own.script.end(), script);
+    };
+    if (walked.next == walked.end || !is_next()) {
+        Coins met;
+        Id copy{};
+        std::copy(id, id + copy.size(), copy.begin());
+        met[{copy, index}] = {coin->value, Bytes(script, script + coin->script), coin->height, coin->coinbase != 0};
+        compare("a coin", shown_coin({walked.pair, met.begin(), met.end()}), shown_coin(walked), told(walked.pair));
+    }
+    walked.next++;
+    return 0;
+}
+
 void compare_coins(const Pair &pair, uint64_t handle, Walk walk, const Coins &own) {
-    Coins found;
-    const auto keep = [](void *context, const uint8_t *id, uint32_t index, const wakotehu_coin *coin, const uint8_t *script) {
-        Id own{};
-        std::copy(id, id + 32, own.begin());
-        (*static_cast<Coins *>(context))[{own, index}] = {coin->value, Bytes(script, script + coin->script), coin->height,
-                                                          coin->coinbase != 0};
-        return 0;
-    };
-    compare("the walk over coins", walk(handle, keep, &found), WAKOTEHU_OK, told(pair));
-    const auto text = [](const Coins &coins) {
-        std::string lines;
-        for (const auto &[outpoint, coin] : coins)
-            lines += hex(outpoint.id) + " " + std::to_string(outpoint.index) + " " + std::to_string(coin.value) + " " +
-                     std::to_string(coin.height) + " " + std::to_string(coin.is_coinbase) + " " + hex(coin.script) + "\n";
-        return lines;
-    };
-    const auto same = [](const Coins::value_type &one, const Coins::value_type &other) {
-        return one.first == other.first && one.second.value == other.second.value && one.second.script == other.second.script &&
-               one.second.height == other.second.height && one.second.is_coinbase == other.second.is_coinbase;
-    };
-    if (own.size() != found.size() || !std::equal(own.begin(), own.end(), found.begin(), same))
-        compare("coins", text(found), text(own), told(pair));
+    Walked walked = {pair, own.begin(), own.end()};
+    compare("the walk over coins", walk(handle, meet_coin, &walked), WAKOTEHU_OK, told(pair));
+    compare("the coins behind the last", "none", shown_coin(walked), told(pair));
 }
 
 /* ---- The same block over given coins */
@@ -416,7 +433,10 @@ void add_fault(Block &block, Source &source, uint32_t median, uint64_t &now) {
     case 11: block.txs.back().outputs.clear(); break;
     case 12: block.txs.back().outputs[0].script = Bytes(1001, reading::OP_CHECKMULTISIG); break;
     case 13: block.txs.back().inputs.clear(); break;
-    case 14: block.txs.back().inputs.push_back(block.txs.back().inputs[0]); break;
+    case 14:
+        if (!block.txs.back().inputs.empty())
+            block.txs.back().inputs.push_back(Input(block.txs.back().inputs[0]));
+        break;
     case 15: block.txs.back().outputs[0].value = -1; break;
     case 16: block.txs.back().outputs[0].value = reading::MAX_MONEY + 1; break;
     case 17: block.txs[0].inputs[0].script.resize(101); break;

@@ -273,7 +273,7 @@ Tx transaction(Source &source) {
 
 static const int64_t VALUES[] = {0, 1, COIN, 50 * COIN, MAX_MONEY - 1, MAX_MONEY, MAX_MONEY + 1, -1, INT64_MIN, INT64_MAX, 3};
 
-/* Scripts that matter for limits of a block. */
+/* Scripts that matter for limits of a block. A block of a million bytes takes as long as a thousand others, so few are made. */
 static Bytes counted_script(Source &source) {
     const uint8_t kind = source.take(), size = source.take();
     switch (kind % 16) {
@@ -282,7 +282,7 @@ static Bytes counted_script(Source &source) {
     case 2: return Bytes(996u + size % 8, OP_CHECKMULTISIG);
     case 3: return Bytes{OP_RETURN, size};
     case 4: return kind < 32 ? Bytes(65533u + size % 6, 0x61) : Bytes(size % 104, 1);
-    case 5: return kind < 16 && source.take() < 8 ? Bytes(999700u + size * 2u, 0x61) : Bytes(9998u + size % 4, 0x51);
+    case 5: return kind == 5 && source.take() >= 248 ? Bytes(999700u + size * 2u, 0x61) : Bytes(9998u + size % 4, 0x51);
     default: return script(source, {0, 0});
     }
 }

@@ -56,11 +56,17 @@ static void write_file(const std::string &name, const Bytes &bytes) {
     std::ofstream(name, std::ios::binary).write(reinterpret_cast<const char *>(bytes.data()), std::streamsize(bytes.size()));
 }
 
+static void print_count() {
+    std::fprintf(stderr, "ran %llu cases, seed %llu\n", static_cast<unsigned long long>(number),
+                 static_cast<unsigned long long>(seed));
+}
+
 static void save_case(int) {
     const char *folder = std::getenv("WAKOTEHU_CRASHES");
     const std::string name = std::string(folder ? folder : ".") + "/crash-" + std::to_string(seed) + "-" + std::to_string(number);
     write_file(name, current);
     std::fprintf(stderr, "the case is in %s\n", name.c_str());
+    print_count();
     std::_Exit(77);
 }
 
@@ -105,7 +111,6 @@ int main(int count, char **words) {
     const std::time_t begun = std::time(nullptr);
     for (; number < cases && (number % 256 || uint64_t(std::time(nullptr) - begun) < seconds); number++)
         run(kept.empty() || draw() % 4 ? random_bytes() : changed(kept[draw() % kept.size()]), keep);
-    std::fprintf(stderr, "ran %llu cases, seed %llu\n", static_cast<unsigned long long>(number),
-                 static_cast<unsigned long long>(seed));
+    print_count();
     return 0;
 }

@@ -32,6 +32,10 @@ wakotehu_code wakotehu_secp256k1_verdicts(const char *lines, size_t length, size
 wakotehu_code wakotehu_secp256k1_verify(const uint8_t *bytes, size_t length, uint64_t input, const uint8_t *spent,
                                         size_t spent_length, const wakotehu_flags *flags, uint32_t *accepted);
 
+/* The same with the name of the failure, under rules by Bitcoin Core's bits, as wakotehu_verify_script tells it. */
+wakotehu_code wakotehu_secp256k1_verify_script(const uint8_t *bytes, size_t length, uint64_t input, const uint8_t *spent,
+                                               size_t spent_length, uint32_t flags, uint32_t *error);
+
 #ifdef __cplusplus
 }
 #endif

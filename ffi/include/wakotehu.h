@@ -584,6 +584,12 @@ wakotehu_code wakotehu_tx_verify(wakotehu_tx tx, const uint8_t *scripts, size_t 
                                  size_t invalid_length, uint64_t *line, uint64_t *input, uint32_t *error, char *asked,
                                  size_t room, uint64_t *needed);
 
+/* wakotehu_tx_verify_input by the verdicts that a set of coins has learnt (wakotehu_utxo_learn), so that no table is read. The
+ * set's coins aren't asked. Both handles are used by this call alone meanwhile. */
+wakotehu_code wakotehu_tx_verify_input_known(wakotehu_tx tx, wakotehu_utxo known, uint64_t input, const uint8_t *spent,
+                                             size_t spent_length, uint32_t flags, uint32_t *error, char *asked,
+                                             size_t room, uint64_t *needed);
+
 /* Gives a transaction's memory back. */
 wakotehu_code wakotehu_tx_free(wakotehu_tx tx);
 

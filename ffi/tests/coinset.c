@@ -213,9 +213,47 @@ static void misused(void) {
     EXPECT(wakotehu_close(chain) == WAKOTEHU_OK);
 }
 
+/* An input of a transaction that was read, by what a set has learnt: asked for, refused and accepted, each allocation refused
+ * in turn; and misuse. */
+static void judged(void) {
+    struct made it = block(0x52);
+    long start = live;
+    wakotehu_utxo known = 0;
+    wakotehu_tx tx = 0;
+    /* The key 51 and CHECKSIG; the input pushes a hash type alone, so no byte of a signature is left. */
+    static const uint8_t spent[] = {0x01, 0x51, 0xac};
+    uint8_t digest[32];
+    char line[MOST];
+    uint32_t error = 99;
+    uint64_t needed = 0;
+    EXPECT(wakotehu_utxo_open(&known) == WAKOTEHU_OK);
+    EXPECT(wakotehu_tx_read(it.bytes + it.tx, it.tx_length, NULL, &tx) == WAKOTEHU_OK);
+    struct coins before = coins_of(known);
+    REFUSED(known, &before, wakotehu_tx_verify_input_known(tx, known, 0, spent, sizeof spent, 0, &error, line, sizeof line, &needed),
+            WAKOTEHU_UNKNOWN);
+    EXPECT(error == 99 && needed == 70 && memcmp(line, "\n51 - ", 6) == 0);
+    EXPECT(wakotehu_signature_digest(it.bytes + it.tx, it.tx_length, 0, spent, sizeof spent, 1, digest) == WAKOTEHU_OK);
+    EXPECT(wakotehu_utxo_learn(known, spent + 1, 1, NULL, 0, digest, 1) == WAKOTEHU_OK);
+    REFUSED(known, &before, wakotehu_tx_verify_input_known(tx, known, 0, spent, sizeof spent, 0, &error, NULL, 0, &needed),
+            WAKOTEHU_OK);
+    EXPECT(error == WAKOTEHU_SCRIPT_OK);
+    EXPECT(wakotehu_tx_verify_input_known(tx, known, 1, equals_two, 2, 0, &error, NULL, 0, &needed) == WAKOTEHU_OK && error == 0);
+    error = 99;
+    EXPECT(wakotehu_tx_verify_input_known(tx, known, 2, spent, 3, 0, &error, NULL, 0, &needed) == WAKOTEHU_NO_INPUT);
+    EXPECT(wakotehu_tx_verify_input_known(tx, known, 0, NULL, 1, 0, &error, NULL, 0, &needed) == WAKOTEHU_NULL);
+    EXPECT(wakotehu_tx_verify_input_known(tx, known, 0, spent, 3, 0, NULL, NULL, 0, &needed) == WAKOTEHU_NULL);
+    EXPECT(wakotehu_tx_verify_input_known(tx, known, 0, spent, 3, 0, &error, NULL, 1, &needed) == WAKOTEHU_NULL);
+    EXPECT(wakotehu_tx_verify_input_known(tx, known, 0, spent, 3, 0, &error, NULL, 0, NULL) == WAKOTEHU_NULL);
+    EXPECT(wakotehu_tx_verify_input_known(tx + 1, known, 0, spent, 3, 0, &error, NULL, 0, &needed) == WAKOTEHU_CLOSED);
+    EXPECT(wakotehu_utxo_close(known) == WAKOTEHU_OK);
+    EXPECT(wakotehu_tx_verify_input_known(tx, known, 0, spent, 3, 0, &error, NULL, 0, &needed) == WAKOTEHU_CLOSED && error == 99);
+    EXPECT(wakotehu_tx_free(tx) == WAKOTEHU_OK && live == start);
+}
+
 int main(void) {
     there_and_back();
     refused_allocations();
     misused();
+    judged();
     return 0;
 }

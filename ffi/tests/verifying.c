@@ -139,6 +139,47 @@ static void verdicts(void) {
     EXPECT(most >= fewest + 3);
 }
 
+/* The name of a failure; 99 where there is no memory, and nothing is left behind. */
+static uint32_t failure(const char *payment, const char *spent, uint32_t flags) {
+    struct bytes tx = decoded(payment), script = decoded(spent);
+    uint32_t error = 99;
+    wakotehu_code code = wakotehu_secp256k1_verify_script(tx.at, tx.length, 0, script.at, script.length, flags, &error);
+    EXPECT(live == 0 && code == (left < 0 && error == 99 ? WAKOTEHU_MEMORY : WAKOTEHU_OK));
+    __real_free(tx.at);
+    __real_free(script.at);
+    return error;
+}
+
+/* By Bitcoin Core's names. */
+static void failures(void) {
+    /* The hash of the script 6a, OP_RETURN, is OpenSSL's. */
+    static const char hashed[] = "a914" "41c98a140039816273e50db317422c11c2bfcc88" "87";
+    static const struct row {
+        const char *payment, *spent;
+        uint32_t flags, error;
+    } rows[] = {
+        {PAYMENT, SPENT, 5, WAKOTEHU_SCRIPT_OK},
+        {PAYMENT, "21" OTHER "ac", 5, WAKOTEHU_SCRIPT_EVAL_FALSE},
+        {PAYMENT, "21" OTHER "ad51", 5, WAKOTEHU_SCRIPT_CHECKSIGVERIFY},
+        {PAYMENT, "76" "41" KEY "ac69" "ac", 5, WAKOTEHU_SCRIPT_VERIFY},
+        {PAYMENT, "00", 5, WAKOTEHU_SCRIPT_EVAL_FALSE},
+        {PAYMENT, "6a", 5, WAKOTEHU_SCRIPT_OP_RETURN},
+        {FRONT "020130" BACK, SPENT, 5, WAKOTEHU_SCRIPT_SIG_DER},
+        {FRONT "020130" BACK, SPENT, 1, WAKOTEHU_SCRIPT_EVAL_FALSE},
+        {FRONT "02016a" BACK, hashed, 1, WAKOTEHU_SCRIPT_OP_RETURN},
+        {FRONT "02016a" BACK, hashed, 4, WAKOTEHU_SCRIPT_OK},
+    };
+    for (size_t n = 0; n < sizeof rows / sizeof *rows; n++) {
+        uint32_t found = 99;
+        for (long allowed = 0; found == 99; allowed++)
+            left = allowed, found = failure(rows[n].payment, rows[n].spent, rows[n].flags);
+        left = -1;
+        if (found != rows[n].error)
+            fprintf(stderr, "row %zu: %u\n", n, found);
+        EXPECT(found == rows[n].error);
+    }
+}
+
 /* One signature by sixty keys, each asked for once; some of them are on the curve. */
 static void many(void) {
     static char spent[60 * 74 + 3];
@@ -169,6 +210,13 @@ static void refusals(void) {
         EXPECT(wakotehu_secp256k1_verify(tx.at, tx.length, input, script.at, script.length, &all, &accepted)
                == WAKOTEHU_NO_INPUT);
     EXPECT(accepted == 7 && live == 0);
+    uint32_t error = 7;
+    EXPECT(wakotehu_secp256k1_verify_script(NULL, 1, 0, script.at, script.length, 5, &error) == WAKOTEHU_NULL);
+    EXPECT(wakotehu_secp256k1_verify_script(tx.at, tx.length, 0, NULL, 1, 5, &error) == WAKOTEHU_NULL);
+    EXPECT(wakotehu_secp256k1_verify_script(tx.at, tx.length, 0, script.at, script.length, 5, NULL) == WAKOTEHU_NULL);
+    EXPECT(wakotehu_secp256k1_verify_script(tx.at, 9, 0, script.at, script.length, 5, &error) == WAKOTEHU_SHORT);
+    EXPECT(wakotehu_secp256k1_verify_script(tx.at, tx.length, 1, script.at, script.length, 5, &error) == WAKOTEHU_NO_INPUT);
+    EXPECT(error == 7 && live == 0);
     /* Nothing is a script too. The element that the input pushed is true. */
     EXPECT(wakotehu_secp256k1_verify(tx.at, tx.length, 0, NULL, 0, &none, &accepted) == WAKOTEHU_OK && accepted == 1);
     __real_free(tx.at);
@@ -177,6 +225,7 @@ static void refusals(void) {
 
 int main(void) {
     verdicts();
+    failures();
     many();
     refusals();
     return 0;

@@ -20,7 +20,15 @@ for _it in ("program", "player"):
 import playing_lists as playing  # noqa: E402
 import scenarios  # noqa: E402
 
-TABLE = {it.name: it for it in scenarios.NAMED.values()}
+# A coin whose script is too long to stand in place (more than 28 bytes), so that reading it takes memory.
+SCRIPT = 28 * "61" + "51"
+APART = scenarios.Scenario(
+    "a coin of a long script",
+    "1,1,1,1",
+    f"block f1 genesis pay={SCRIPT}",
+    f"submit f1 = accepted @1\ntxout f1.cb:0 = 5000000000 {SCRIPT} height 1 coinbase conf 1 @1\ntips = f1 1 0 active @1",
+)
+TABLE = {it.name: it for it in (*scenarios.NAMED.values(), APART)}
 
 WRITE = ("submit", "invalidate", "reconsider", "precious")
 

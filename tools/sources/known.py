@@ -1,4 +1,4 @@
-"""What came of edits and twins, by sums of what they were tried with, so that the gate tries again only what has changed."""
+"""What came of edits and twins, by sums of what they were tried with, so that only what has changed is tried again."""
 
 import hashlib
 import os
@@ -9,7 +9,7 @@ from typing import Callable, Dict, Iterable, List, Tuple
 from . import repository
 from .edits import HERE, Edit
 
-#: A line for each twin that passed, and for each edit of the gate that was refused: CRATE/NAME and the sum.
+#: A line for each twin that passed, and for each edit that was refused: CRATE/NAME and the sum.
 TWINS, REFUSED = f"{HERE}/twins.txt", f"{HERE}/refused.txt"
 WHOLE, STATED = ("src", "specs", "proofs"), ("src", "specs")
 

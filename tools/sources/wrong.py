@@ -1,9 +1,9 @@
 """Tries the wrong bodies of wrong/: the prover has to refuse each, in the function that it changes.
 
-    wrong/run [CRATE..]              all of these crates, by default of every crate
-    wrong/run --gate [CRATE..]       those alone that the gate tries, which gate.txt names, and of these what isn't recorded as it
-                                     is in refused.txt and twins.txt; --anew: all of them
-    wrong/run --edit CRATE/NAME ..   these edits alone
+    wrong/run [CRATE..]              all of these crates, by default of every crate, that aren't recorded as they are in refused.txt
+                                     and twins.txt; --anew: all of them
+    wrong/run --gate [CRATE..]       of these those alone that the gate tries, which gate.txt names
+    wrong/run --edit CRATE/NAME ..   these edits alone, recorded or not
     wrong/run --refusals [CRATE..]   then the wrong programs of tests/refusals/wrong too, by tests/refusals/try_wrong
     wrong/run --programs             only the wrong programs of wrong/programs, by wrong/programs/try
     wrong/run --apply                only sees that every edit and every wrong program can still be laid over the
@@ -118,10 +118,10 @@ def at_once() -> int:
 
 
 def unrecorded(edits: List[Edit], given: argparse.Namespace) -> Tuple[List[Edit], List[Edit]]:
-    """The edits that are to be tried, and the twins: of the gate those that aren't recorded as they are. An edit whose twin is
-    to be tried is tried beside it."""
+    """The edits that are to be tried, and the twins: those that aren't recorded as they are, unless they are named. An edit whose
+    twin is to be tried is tried beside it."""
     twins = [it for it in edits if it.has_twin()]
-    if not given.gate or given.anew:
+    if given.anew or given.edit:
         return edits, twins
     left = known.unknown(known.TWINS, known.sum_of_twin, twins)
     unknown = known.unknown(known.REFUSED, known.sum_of_refusal, edits)
@@ -159,7 +159,7 @@ def try_all(wanted: List[Edit], jobs: int, kept: str, given: argparse.Namespace)
     if given.record:
         refused = [it for it in edits if found[str(it)].verdict == Verdict.REFUSED]
         known.write(known.TWINS, known.sum_of_twin, well)
-        known.write(known.REFUSED, known.sum_of_refusal, [it for it in refused if str(it) in gate()])
+        known.write(known.REFUSED, known.sum_of_refusal, refused)
     print(f"wrong/run: {time.monotonic() - begun:.0f} seconds by the clock, {spent()}")
     return all(it.verdict == Verdict.REFUSED for it in found.values())
 
@@ -234,8 +234,8 @@ def main() -> int:
     words.add_argument("--refusals", action="store_true", help="also the wrong programs of tests/refusals/wrong")
     words.add_argument("--programs", action="store_true", help="only the wrong programs of wrong/programs")
     words.add_argument("--apply", action="store_true", help="only sees that every edit can be applied")
-    words.add_argument("--anew", action="store_true", help="with --gate: what is recorded too")
-    words.add_argument("--record", action="store_true", help="writes which twins passed into twins.txt, and which edits of the gate were refused into refused.txt")
+    words.add_argument("--anew", action="store_true", help="what is recorded too")
+    words.add_argument("--record", action="store_true", help="writes which twins passed into twins.txt, and which edits were refused into refused.txt")
     words.add_argument("--kept", metavar="FOLDER", default="", help="where checks keep what they prove, for the next run")
     words.add_argument("--jobs", metavar="N", type=int, default=0, help="so many jobs of the prover, if not as many as there is room for")
     given = words.parse_args()

@@ -1,5 +1,7 @@
--- What a step wants: all signatures that scripts of one of the blocks that it tries ask for.
-use Rattle.std.specs.Prelude.{◌≡◌, ℕ, ◌<◌, ◌≤◌, true, false, List, length, Some}
+-- What a step wants: all signatures that scripts of one or more of the blocks that it tries ask for. A block above another
+-- one that wants is among them: its coins are those of its branch, whatever scripts say.
+use Rattle.std.specs.Prelude.{◌≡◌, ℕ, ◌<◌, ◌≤◌, true, false, List, length, Some, All}
+use Rattle.std.specs.List.{flat_map}
 use Rattle.hash.specs.declared.id.Id.{Id}
 use Rattle.block.specs.declared.block.Block.{Block}
 use Rattle.block.specs.Decoding.{block_of_bytes}
@@ -25,12 +27,23 @@ AreWantedAt params t known p list =
     AreWantedByBlock (setting_on params (branch_blocks t parent)) (coins_after t parent) (block_at names t p).txs known list
 
 -- a block that is tried does: it is on the branch of a candidate, and not on the active one
-pub record AreWantedToSettle (c : CoreState) (known : Known) (list : List Triple) : Type 0 where
+pub record AreWantedByTried (c : CoreState) (known : Known) (list : List Triple) : Type 0 where
   pub place : ℕ
   pub kept : place ≤ length c.state.blocks
   pub candidate : Under known (λ triples. on_candidate (regtest c.params triples) c.state place ≡ true)
   pub inactive : on c.state.blocks c.active place ≡ false
   pub wanted : AreWantedAt c.params c.state.blocks known place list
+
+-- several lists one behind the other, at least one, and so is each
+pub record AreJoined (Is : List Triple → Type 0) (list : List Triple) : Type 0 where
+  pub parts : List (List Triple)
+  pub some : 0 < length parts
+  pub each : All Is parts
+  pub list_is : list ≡ flat_map (λ part. part) parts
+
+-- what blocks that are tried want, one behind the other
+abbrev pub AreWantedToSettle : CoreState → Known → List Triple → Type 0
+AreWantedToSettle c known list = AreJoined (AreWantedByTried c known) list
 
 -- what a request does to the state before blocks are tried. There is no such state where it tries none
 abbrev pub IsToSettle : CoreState → Known → Request Block Id → State Block → Type 0

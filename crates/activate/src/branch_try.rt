@@ -1,13 +1,15 @@
 //! A try of a block: whether its branch connects.
 
-ghost use Rattle.std.specs.Prelude.{◌≡◌, ◌<◌, ◌≤◌, ◌∷◌, suc, length, IfOk, IfErr, None, OnOk, IfSome};
+ghost use Rattle.std.specs.Prelude.{◌≡◌, ◌<◌, ◌≤◌, ◌∷◌, suc, length, IfOk, IfErr, None, OnOk, IfSome, MatchOption};
 ghost use Rattle.chain.specs.Regtest.{regtest};
 ghost use Rattle.chain.specs.Submitted.{IsJudged};
-ghost use Rattle.activate.specs.inside.Ascents.{IsTop};
+ghost use Rattle.activate.specs.Wants.{AreJoined};
+ghost use Rattle.activate.specs.inside.Ascents.{IsApplied, IsTop};
 ghost use Rattle.activate.specs.inside.Paths.{AreWantedOnWay, IsActiveBranch, IsAttempt, IsPath, IsStop, IsValid, one_more};
 ghost use Rattle.curve.specs.Known.{Under};
+ghost use Rattle.activate.specs.declared.path.Attempt.TheVariants.{Fails};
 
-use crate::ascent::{Ascent, Stop, append, connect_up};
+use crate::ascent::{Ascent, Climb, Stop, append, connect_up, more};
 use crate::disconnection::disconnect_to_fork;
 use crate::fork_search::path_to;
 use crate::medians::Medians;
@@ -15,9 +17,10 @@ use crate::new_undo::NewUndo;
 use crate::path::{ActiveBranch, Attempt, BranchPath, FailedTry, Reorganisation};
 use chain::SubmittedBlock;
 use coins::{Base, Cache};
-use connect::{BlockWithIds, Context, RunsScripts, connect_in_layer};
+use connect::{BlockWithIds, Context, RunsScripts, apply_in_layer};
 use queue::Gate;
 use std::alloc::Global;
+use txn::Reason;
 use wire::Memory;
 
 impl<'a> ActiveBranch<'a> {
@@ -38,19 +41,23 @@ impl<'a> ActiveBranch<'a> {
             let b = self.now in
             IsAttempt (regtest b.params.now triples) b.tree.now.blocks b.active place attempt)) }
         ensures wants { let b = self.now in IfErr result (λ stop. IfSome (S.told stop)
-            (AreWantedOnWay b.params.now b.tree.now.blocks b.active place (S.known env.now))) }
+            (AreJoined (AreWantedOnWay b.params.now b.tree.now.blocks b.active place
+            (S.known env.now)))) }
     {
         let (path, answer) = self.activate_best_chain_step(alloc, base, place, env, gate)?;
         match answer {
-            Ok(ascent) => {
-                let changes = ascent.layer.into_changes();
-                let undo = NewUndo::of(alloc, ascent.undo)?;
-                Ok(Attempt::Succeeds(Reorganisation {
-                    path,
-                    undo,
-                    changes,
-                }))
-            }
+            Ok(Climb { ascent, wants }) => match wants {
+                Some(stop) => Err(stop),
+                None => {
+                    let changes = ascent.layer.into_changes();
+                    let undo = NewUndo::of(alloc, ascent.undo)?;
+                    Ok(Attempt::Succeeds(Reorganisation {
+                        path,
+                        undo,
+                        changes,
+                    }))
+                }
+            },
             Err(stop) => Ok(Attempt::Fails(FailedTry {
                 path,
                 passed: stop.passed,
@@ -84,22 +91,16 @@ impl<'a> ActiveBranch<'a> {
         ensures wants { IfErr result (λ stop. IfSome (S.told stop) (
             let b = self.now in
             let t = b.tree.now.blocks in
-            AreWantedOnWay b.params.now
+            AreJoined (AreWantedOnWay b.params.now
             (one_more t submitted.now.block parent) b.active (suc (length t))
-            (S.known env.now))) }
+            (S.known env.now)))) }
     {
         let (mut path, answer) = self.activate_best_chain_step(alloc, base, parent, env, gate)?;
         let below = path.up.len();
         put_first(&mut path.up, self.tree.len())?;
-        let ascent = match answer {
-            Ok(ascent) => ascent,
-            Err(stop) => {
-                return Ok(Attempt::Fails(FailedTry {
-                    path,
-                    passed: stop.passed,
-                    reason: stop.reason,
-                }));
-            }
+        let Climb { ascent, wants } = match answer {
+            Ok(climb) => climb,
+            Err(stop) => return Ok(failed(path, stop.passed, stop.reason)),
         };
         let (layer, mut undo, medians) = (ascent.layer, ascent.undo, ascent.medians);
         let context = Context {
@@ -110,22 +111,24 @@ impl<'a> ActiveBranch<'a> {
         };
         let (block, ids) = (&submitted.block, submitted.ids.as_slice());
         let of = BlockWithIds { block, ids };
-        match connect_in_layer(alloc, layer, &context, &of, env, gate)? {
-            Ok((layer, spent)) => {
-                append(&mut undo, spent)?;
-                let undo = NewUndo::of(alloc, undo)?;
-                let changes = layer.into_changes();
-                Ok(Attempt::Succeeds(Reorganisation {
-                    path,
-                    undo,
-                    changes,
-                }))
-            }
-            Err(reason) => Ok(Attempt::Fails(FailedTry {
-                path,
-                passed: below,
-                reason,
-            })),
+        match apply_in_layer(alloc, layer, &context, &of, env, gate)? {
+            Ok(done) => match more(env, wants, done.stop)? {
+                Some(stop) => Err(stop),
+                None => {
+                    append(&mut undo, done.undo)?;
+                    let undo = NewUndo::of(alloc, undo)?;
+                    let changes = done.layer.into_changes();
+                    Ok(Attempt::Succeeds(Reorganisation {
+                        path,
+                        undo,
+                        changes,
+                    }))
+                }
+            },
+            Err(reason) => match wants {
+                Some(stop) => Err(stop),
+                None => Ok(failed(path, below, reason)),
+            },
         }
     }
 
@@ -138,23 +141,31 @@ impl<'a> ActiveBranch<'a> {
         place: usize,
         env: &S,
         gate: &(dyn Gate + Sync),
-    ) -> Result<(BranchPath, Result<Ascent<'b, 'a, B>, Stop>), S::Stop>
+    ) -> Result<(BranchPath, Result<Climb<'b, 'a, B, S::Stop>, Stop>), S::Stop>
         requires active { IsActiveBranch self.now (B.coins base.now) }
         requires valid { Under (S.known env.now) (λ triples. let b = self.now in
             IsValid (regtest b.params.now triples) b.tree.now.blocks b.active) }
         requires place { place ≤ length self.now.tree.now.blocks }
         ensures path { IfOk result (λ walk. let b = self.now in
             IsPath b.tree.now.blocks b.active place walk.0) }
-        ensures top { IfOk result (λ walk. IfOk walk.1 (λ ascent.
-            Under (S.known env.now) (λ triples. let b = self.now in
-            IsTop (regtest b.params.now triples) b.tree.now.blocks walk.0.fork walk.0.up.items
-            (B.coins base.now) ascent.undo.items ascent.layer ascent.medians))) }
+        ensures top { let b = self.now in let t = b.tree.now.blocks in
+            let known = S.known env.now in
+            IfOk result (λ walk. IfOk walk.1 (λ climb. MatchOption climb.wants
+            (Under known (λ triples. let ascent = climb.ascent in
+            IsTop (regtest b.params.now triples) t walk.0.fork walk.0.up.items
+            (B.coins base.now) ascent.undo.items ascent.layer ascent.medians))
+            (λ stop. IfSome (S.told stop)
+            (AreJoined (AreWantedOnWay b.params.now t b.active place known))))) }
+        ensures applied { IfOk result (λ walk. IfOk walk.1 (λ climb.
+            IsApplied self.now.tree.now.blocks place (B.coins base.now)
+            climb.ascent.layer climb.ascent.medians)) }
         ensures stops { IfOk result (λ walk. IfErr walk.1 (λ stop.
             Under (S.known env.now) (λ triples. let b = self.now in
             IsStop (regtest b.params.now triples) b.tree.now.blocks place walk.0.up.items
             stop.passed stop.reason))) }
         ensures wants { let b = self.now in IfErr result (λ stop. IfSome (S.told stop)
-            (AreWantedOnWay b.params.now b.tree.now.blocks b.active place (S.known env.now))) }
+            (AreJoined (AreWantedOnWay b.params.now b.tree.now.blocks b.active place
+            (S.known env.now)))) }
     {
         let path = path_to(alloc, self, place)?;
         let layer = disconnect_to_fork(alloc, self, Cache::over(alloc, base), path.fork)?;
@@ -167,6 +178,17 @@ impl<'a> ActiveBranch<'a> {
         let answer = connect_up(alloc, self, start, &path, env, gate)?;
         Ok((path, answer))
     }
+}
+
+/// A try that ended at a block with a fault.
+fn failed(path: BranchPath, passed: usize, reason: Reason) -> Attempt
+    ensures { result ≡ Fails (record { path = path; passed = passed; reason = reason }) }
+{
+    Attempt::Fails(FailedTry {
+        path,
+        passed,
+        reason,
+    })
 }
 
 /// Puts a place before those of a list.

@@ -3,25 +3,23 @@
 ghost use Rattle.std.specs.Prelude.{◌≡◌, Decides, IfOk};
 
 use curve::KeptTriple;
-use std::alloc::{AllocError, Global};
+use std::alloc::AllocError;
 use std::fmt::{self, Display};
 use std::marker::Model;
-use std::sync::Arc;
 use wire::Memory;
 
 /// A key, a signature without its hash type, and a digest, which copies of a command share. A clause sees the triple.
 #[derive(Drop)]
 pub struct SharedTriple {
-    shared: Arc<KeptTriple>,
+    shared: KeptTriple,
 }
 
 impl Model for SharedTriple {
-    ghost use Rattle.std.specs.Arc.{arc_value};
     ghost use Rattle.curve.specs.Triple.{Triple};
 
     ghost Value = { Triple };
 
-    ghost view = { λ t. arc_value t.shared };
+    ghost view = { λ t. t.shared };
 }
 
 // A clone is the same value. It takes no memory: it is refused only where 2^63 of them are kept.
@@ -30,7 +28,7 @@ impl Clone for SharedTriple {
 
     fn clone(&self) -> Result<SharedTriple, AllocError> {
         Ok(SharedTriple {
-            shared: Arc::try_clone(&self.shared)?,
+            shared: self.shared.clone()?,
         })
     }
 }
@@ -42,16 +40,13 @@ impl fmt::Debug for SharedTriple {
 }
 
 impl SharedTriple {
-    /// An equal triple, in memory of its own.
-    pub fn of(alloc: Global, triple: &KeptTriple) -> Result<SharedTriple, Memory>
+    /// The same triple. It takes no memory.
+    pub fn of(triple: &KeptTriple) -> Result<SharedTriple, Memory>
         ensures { IfOk result (λ shared. shared ≡ triple.now) }
     {
-        let (key, signature, digest) = (triple.key(), triple.signature(), triple.digest());
-        let shared = Arc::new(
-            alloc,
-            KeptTriple::from_parts(alloc, key, signature, digest)?,
-        )?;
-        Ok(SharedTriple { shared })
+        Ok(SharedTriple {
+            shared: triple.copy()?,
+        })
     }
 
     /// The same triple. It takes no memory.

@@ -1,6 +1,6 @@
 //! Connecting a block.
 
-ghost use Rattle.std.specs.Prelude.{◌≡◌, ◌+ℤ◌, ◌≤◌, ◌≤ℤ◌, ◌^◌, neg_ℤ, pos, false, int_lt, IfOk, IfErr, OnOk, OnErr, None, length, IfSome};
+ghost use Rattle.std.specs.Prelude.{◌≡◌, ◌+ℤ◌, ◌≤◌, ◌≤ℤ◌, ◌^◌, neg_ℤ, pos, false, int_lt, IfOk, IfErr, OnOk, OnErr, None, Some, length, IfSome, MatchOption};
 ghost use Rattle.std.specs.List.{AllByRecursion, list_any, flat_map};
 ghost use Rattle.std.specs.Result.{result_err};
 ghost use Rattle.txn.specs.Check.{total};
@@ -130,6 +130,56 @@ pub fn connect_in_layer<'b, B: Base, S: RunsScripts>(
     ensures connected { IfOk result (λ answer. IfOk answer (λ done.
         IsConnected (setting context.now) layer.entry.coins of.now.block.now done.0.coins done.1)) }
 {
+    match apply_in_layer(alloc, layer, context, of, env, gate)? {
+        Err(reason) => Ok(Err(reason)),
+        Ok(Applied { layer, undo, stop }) => match stop {
+            None => Ok(Ok((layer, undo))),
+            Some(stop) => Err(stop),
+        },
+    }
+}
+
+/// A block that was applied in a layer: it breaks no rule, or its scripts have no answer.
+#[derive(Drop)]
+pub struct Applied<'b, B: Base, W: Drop> {
+    /// The layer with the coins after it.
+    pub layer: Cache<'b, B>,
+    /// What it spent.
+    pub undo: BlockUndo,
+    /// Why its scripts have no answer: what they want, or there was no memory. None where they accept.
+    pub stop: Option<W>,
+}
+
+/// The same as [`connect_in_layer`] for a caller who goes on above a block whose scripts have no answer: the layer comes
+/// back then too, since signatures change no coins.
+pub fn apply_in_layer<'b, B: Base, S: RunsScripts>(
+    alloc: Global,
+    layer: Cache<'b, B>,
+    context: &Context,
+    of: &BlockWithIds<'_>,
+    env: &S,
+    gate: &(dyn Gate + Sync),
+) -> Result<Result<Applied<'b, B, S::Stop>, Reason>, S::Stop>
+    // It breaks no rule by itself.
+    requires alone { first_broken (alone_rules of.now.block.now) ≡ None }
+    requires ids { of.now.ids.now ≡ ids_of of.now.block.now.txs }
+    ensures fault { let s = setting context.now in let m = layer.entry.coins in
+        IfOk result (λ answer. IfErr answer (λ reason. Under (S.known env.now) (λ triples.
+        IsConnectFault s m of.now.block.now.txs triples (Some reason)))) }
+    ensures scripts { let s = setting context.now in let m = layer.entry.coins in
+        let txs = of.now.block.now.txs in let known = S.known env.now in
+        IfOk result (λ answer. IfOk answer (λ done. MatchOption done.stop
+        (Under known (λ triples. IsConnectFault s m txs triples None))
+        (λ stop. IfSome (S.told stop) (AreWantedByBlock s m txs known)))) }
+    ensures coins { let m = layer.entry.coins in
+        IfOk result (λ answer. IfOk answer (λ done. done.layer ≡
+        record layer.entry { coins = effect context.now.height m of.now.block.now.txs })) }
+    // With its undo it can be taken back by `disconnect_in_layer`.
+    ensures connected { IfOk result (λ answer. IfOk answer (λ done. IsConnected
+        (setting context.now) layer.entry.coins of.now.block.now done.layer.coins done.undo)) }
+    // Only of memory there is no answer at all.
+    ensures memory { IfErr result (λ stop. S.told stop ≡ None) }
+{
     let lookup = lookup_in(&layer);
     let place = Place { context, lookup };
     match connect_txs(alloc, layer, &place, of.block.txs.as_slice(), of.ids) {
@@ -138,10 +188,19 @@ pub fn connect_in_layer<'b, B: Base, S: RunsScripts>(
         Ok((layer, undo)) => {
             let others = &of.block.txs.as_slice()[1..];
             let rules = context.params.at(context.height);
-            if let Some(reason) = first_refused(alloc, others, &undo, rules, env, gate)? {
-                return Ok(Err(reason));
+            match first_refused(alloc, others, &undo, rules, env, gate) {
+                Ok(Some(reason)) => Ok(Err(reason)),
+                Ok(None) => Ok(Ok(Applied {
+                    layer,
+                    undo,
+                    stop: None,
+                })),
+                Err(stop) => Ok(Ok(Applied {
+                    layer,
+                    undo,
+                    stop: Some(stop),
+                })),
             }
-            Ok(Ok((layer, undo)))
         }
     }
 }

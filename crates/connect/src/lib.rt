@@ -15,7 +15,7 @@ mod scripts;
 mod stop;
 mod turn;
 
-pub use connecting::{connect, connect_in_layer};
+pub use connecting::{Applied, apply_in_layer, connect, connect_in_layer};
 pub use context::{BlockWithIds, Context, Env};
 pub use disconnecting::{disconnect, disconnect_in_layer};
 pub use early::{early_jobs, script_flags};

@@ -1,10 +1,10 @@
 //! Who runs the scripts of a block, and by what is known of signatures.
 
-ghost use Rattle.std.specs.Prelude.{◌≡◌, All, List, None, Option, length};
+ghost use Rattle.std.specs.Prelude.{◌≡◌, All, List, None, Option, length, IfSome};
 ghost use Rattle.curve.specs.Known.{Agrees, Known};
 ghost use Rattle.curve.specs.Triple.{Triple, Triples};
 ghost use Rattle.queue.specs.Jobs.{AreNumbered, HasInput, verdict_at};
-ghost use Rattle.queue.specs.Telling.{Told};
+ghost use Rattle.queue.specs.Telling.{AreOfBoth, Told};
 
 use crate::context::Env;
 use interp::Job;
@@ -41,6 +41,13 @@ pub trait RunsScripts {
         // Jobs of one number are of one transaction.
         requires numbered { AreNumbered numbers.now jobs.now }
         ensures { Told (length jobs.now) (verdict_at (known self.now) jobs.now) told result };
+
+    /// The stop that lists what two list, one behind the other.
+    fn join(&self, first: Self::Stop, other: Self::Stop) -> Self::Stop
+        ensures { IfSome (told result) (AreOfBoth (told first) (told other)) };
+
+    /// Whether a stop lists so many signatures that no further block is asked for its own; also where it lists none.
+    fn is_enough(&self, stop: &Self::Stop) -> bool;
 
     ghost agrees: { (it : Self) → Agrees (known it) (agreeing it) };
 
@@ -80,5 +87,13 @@ impl<'a, S: Judges, C: Crew<S>> RunsScripts for Env<'a, S, C> {
             workers: self.workers,
         };
         first_failure(alloc, jobs, numbers, &runs, gate)
+    }
+
+    fn join(&self, first: S::Stop, other: S::Stop) -> S::Stop {
+        self.signatures.join(first, other)
+    }
+
+    fn is_enough(&self, stop: &S::Stop) -> bool {
+        self.signatures.is_enough(stop)
     }
 }

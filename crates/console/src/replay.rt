@@ -274,7 +274,7 @@ fn command_of(
             if verdict.valid != valid || *verdict.triple.digest() != step.block.0 {
                 return Err(Fault::JournalLine(step.number));
             }
-            Command::Learn(SharedTriple::of(alloc, &verdict.triple)?, valid)
+            Command::Learn(SharedTriple::of(&verdict.triple)?, valid)
         }
         Asked::Submit(now) => {
             let record = records.next().ok_or(Fault::BlkRecords)?;

@@ -2,11 +2,11 @@
 
 ghost use Rattle.std.specs.Prelude.{◌≡◌, None, Some, IfOk, IfSome, OnOk, OnErr, MatchOption};
 ghost use Rattle.std.specs.Bool.{Decides};
-ghost use Rattle.curve.specs.Triple.{triple_of};
 ghost use Rattle.curve.specs.Known.{AreApart, verdict_in, with_verdict};
 
 use crate::knows_signatures::KnowsSignatures;
 use crate::table::Table;
+use crate::triple::KeptTriple;
 use std::alloc::Global;
 use std::marker::Model;
 use wire::Memory;
@@ -68,23 +68,16 @@ impl FoundTables {
         })
     }
 
-    /// Takes the verdict on a triple of which none is known. The signature is without its hash type.
-    pub(crate) fn learn(
-        &mut self,
-        key: &[u8],
-        signature: &[u8],
-        digest: &[u8; 32],
-        valid: bool,
-    ) -> Result<(), Memory>
-        requires { verdict_in self.old (triple_of key.now signature.now digest.now) ≡ None }
-        ensures ok { let t = triple_of key.now signature.now digest.now in
-            OnOk result (self.new ≡ with_verdict self.old t valid) }
+    /// Takes the verdict on a triple of which none is known.
+    pub(crate) fn learn(&mut self, triple: &KeptTriple, valid: bool) -> Result<(), Memory>
+        requires { verdict_in self.old triple.now ≡ None }
+        ensures ok { OnOk result (self.new ≡ with_verdict self.old triple.now valid) }
         ensures err { OnErr result (self.new ≡ self.old) }
     {
         if valid {
-            self.valid.add(key, signature, digest)
+            self.valid.add_kept(triple)
         } else {
-            self.invalid.add(key, signature, digest)
+            self.invalid.add_kept(triple)
         }
     }
 }

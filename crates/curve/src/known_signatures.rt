@@ -7,6 +7,7 @@ ghost use Rattle.curve.specs.inside.Parts.{whole};
 
 use crate::found_tables::FoundTables;
 use crate::knows_signatures::KnowsSignatures;
+use crate::triple::KeptTriple;
 use std::alloc::Global;
 use std::marker::Model;
 use wire::Memory;
@@ -54,9 +55,20 @@ impl KnownSignatures {
             OnOk result (self.new ≡ with_verdict self.old t valid) }
         ensures err { OnErr result (self.new ≡ self.old) }
     {
-        let place = usize::from(digest[0]);
+        let alloc = *self.parts.allocator();
+        let triple = KeptTriple::from_parts(alloc, key, signature, digest)?;
+        self.learn_kept(&triple, valid)
+    }
+
+    /// The same of a triple that its clones share, so that no other is made.
+    pub fn learn_kept(&mut self, triple: &KeptTriple, valid: bool) -> Result<(), Memory>
+        requires { verdict_in self.old triple.now ≡ None }
+        ensures ok { OnOk result (self.new ≡ with_verdict self.old triple.now valid) }
+        ensures err { OnErr result (self.new ≡ self.old) }
+    {
+        let place = usize::from(triple.digest()[0]);
         add_parts(&mut self.parts, place + 1)?;
-        self.parts[place].learn(key, signature, digest, valid)
+        self.parts[place].learn(triple, valid)
     }
 
     /// The same verdicts.

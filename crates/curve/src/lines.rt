@@ -58,7 +58,8 @@ fn read_triple(
     let Some(signature) = read_bytes(alloc, signature)? else {
         return Ok(None);
     };
-    Ok(Some(KeptTriple::new(key, signature, digest)))
+    let (key, signature) = (key.as_slice(), signature.as_slice());
+    Ok(Some(KeptTriple::from_parts(alloc, key, signature, &digest)?))
 }
 
 /// The first word of a line, and what follows it.

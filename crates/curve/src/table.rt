@@ -83,10 +83,18 @@ impl Table {
             OnOk result (self.new ≡ set.insert self.old t) }
         ensures err { OnErr result (self.new ≡ self.old) }
     {
-        if let Err(at) = place(self.triples.as_slice(), key, signature, digest) {
-            let alloc = *self.triples.allocator();
-            let triple = KeptTriple::from_parts(alloc, key, signature, digest)?;
-            self.triples.insert(at, triple)?;
+        let alloc = *self.triples.allocator();
+        self.add_kept(&KeptTriple::from_parts(alloc, key, signature, digest)?)
+    }
+
+    /// Puts a triple in that its clones share.
+    pub fn add_kept(&mut self, triple: &KeptTriple) -> Result<(), Memory>
+        ensures ok { OnOk result (self.new ≡ set.insert self.old triple.now) }
+        ensures err { OnErr result (self.new ≡ self.old) }
+    {
+        if let Err(at) = place_of(self.triples.as_slice(), triple) {
+            let copy = triple.copy()?;
+            self.triples.insert(at, copy)?;
         }
         Ok(())
     }
@@ -163,4 +171,12 @@ fn place(
         IsBinarySearchResult (λ e. triple_cmp e t) triples.now result }
 {
     triples.binary_search_by(|triple| triple.compare(key, signature, digest))
+}
+
+/// The same of a triple that is kept.
+fn place_of(triples: &[KeptTriple], triple: &KeptTriple) -> Result<usize, usize>
+    ensures bound { IsSearchInRange result (length triples.now) }
+    ensures position { IsBinarySearchResult (λ e. triple_cmp e triple.now) triples.now result }
+{
+    triples.binary_search_by(|kept| kept.compare_kept(triple))
 }

@@ -102,6 +102,12 @@ IsInputNamed tx input spent flags valid invalid before after result =
     (IsByTables valid invalid (λ found. IsNamed tx input spent flags found before after result) before.line after.line kept result)
     ((after.line ≡ before.line) × kept) result
 
+-- by verdicts that are kept, of an input that there is; no line of a table is told
+abbrev pub IsInputKnown : Tx → ℕ → List ℕ → ℕ → Verdicts → Told → Told → ℕ → Type 0
+IsInputKnown tx input spent flags found before after result =
+    let kept = (after.asked ≡ before.asked) × (after.error ≡ before.error) in
+    (after.line ≡ before.line) × IsOfOne tx input (IsNamed tx input spent flags found before after result) kept result
+
 -- ---- stacks: the lengths of the elements from the bottom up, and their bytes together
 
 abbrev pub sizes_of : Stack → List ℕ

@@ -17,6 +17,7 @@ mod listing;
 mod lookups;
 mod named;
 mod parsed;
+mod parsed_known;
 mod parts;
 mod room;
 mod scripts;

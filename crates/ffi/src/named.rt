@@ -1,7 +1,6 @@
 //! Scripts and inputs with the names of their failures, by what is known of signatures.
 
 ghost use Rattle.std.specs.Prelude.{◌≡◌, ◌<◌, length};
-ghost use Rattle.curve.specs.Known.{verdict_in};
 ghost use Rattle.curve.specs.Lines.{lines};
 ghost use Rattle.interp.specs.Answer.{Tells};
 ghost use Rattle.interp.specs.Question.{question};
@@ -14,7 +13,7 @@ ghost use Rattle.ffi.specs.Refusals.{IsTold};
 use crate::answers::{DONE, MEMORY, NO_INPUT};
 use crate::known::{known_of, tell_line};
 use crate::transactions::front;
-use curve::FoundTables;
+use curve::KnowsSignatures;
 use interp::{Flags, Job, ScriptError, Unverified, verify_script};
 use std::alloc::Global;
 use txn::Tx;
@@ -69,13 +68,13 @@ pub extern "C" fn ffi_verify_script(
 }
 
 /// Why an input may not spend a script, by what is known of signatures.
-pub(crate) fn tell_failure(
+pub(crate) fn tell_failure<K: KnowsSignatures>(
     alloc: Global,
     tx: &Tx,
     input: usize,
     spent: &[u8],
     flags: u32,
-    known: &FoundTables,
+    known: &K,
     error: &mut u32,
     asked: &mut [u8],
     count: &mut u64,
@@ -83,7 +82,7 @@ pub(crate) fn tell_failure(
     requires { input < length tx.now.inputs }
     ensures { let before = asked_of asked.old count.old in
         let after = asked_of asked.new count.new in
-        IsAnswered (verify_script (verdict_in known.now)
+        IsAnswered (verify_script (K.known known.now)
         (question tx.now input spent.now (flags_in flags))) (λ named. (result ≡ 0)
         × (error.new ≡ failure_number named)) (error.new ≡ error.old) before after result }
 {
@@ -101,16 +100,16 @@ pub(crate) fn tell_failure(
     }
 }
 
-fn judge<'a>(
+fn judge<'a, K: KnowsSignatures>(
     alloc: Global,
     tx: &'a Tx,
     input: usize,
     spent: &'a [u8],
     flags: u32,
-    known: &FoundTables,
+    known: &K,
 ) -> Result<Result<(), ScriptError>, Unverified>
     requires { input < length tx.now.inputs }
-    ensures { Tells result (verify_script (verdict_in known.now)
+    ensures { Tells result (verify_script (K.known known.now)
         (question tx.now input spent.now (flags_in flags))) }
 {
     let flags = flags_in(flags);

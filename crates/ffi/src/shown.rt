@@ -140,6 +140,15 @@ pub struct InputQuestion<'a> {
     pub flags: u32,
 }
 
+/// What is asked of an input by verdicts that are kept: the input, the script that it spends, and bits of rules.
+#[repr(C)]
+#[derive(Clone, Copy, Drop)]
+pub struct KnownQuestion<'a> {
+    pub input: u64,
+    pub spent: &'a [u8],
+    pub flags: u32,
+}
+
 /// What is told of an input: the number of the line that can't be read, how many bytes the line has that is asked for, and
 /// the number of the failure.
 #[repr(C)]

@@ -4,7 +4,7 @@ ghost use Rattle.std.specs.Prelude.{◌≡◌, IfOk};
 ghost use Rattle.ffi.specs.inside.Signatures.{known_in};
 
 use curve::{KeptTriple, KnownSignatures, KnowsSignatures, Table};
-use queue::{Judges, Undecided};
+use queue::{Judges, Undecided, are_enough, joined};
 use wire::Memory;
 
 /// The valid signatures, or verdicts that are found out by need.
@@ -56,6 +56,14 @@ impl Judges for Signatures {
 
     fn stop(&self, wants: Vec<KeptTriple>) -> Undecided {
         Undecided::Unknown(wants)
+    }
+
+    fn join(&self, first: Undecided, other: Undecided) -> Undecided {
+        joined(first, other)
+    }
+
+    fn is_enough(&self, stop: &Undecided) -> bool {
+        are_enough(stop)
     }
 
     ghost memory_tells = { memory_tells };

@@ -100,6 +100,13 @@ impl Utxo {
         }
     }
 
+    /// What was learnt of signatures.
+    pub(crate) fn known(&self) -> &KnownSignatures
+        ensures { result.now ≡ self.now.verdicts }
+    {
+        &self.known
+    }
+
     /// Puts a coin at an outpoint. The block that was connected last can't be taken back any more.
     pub(crate) fn put(&mut self, at: OutPoint, coin: Coin) -> Result<(), Memory>
         ensures ok { OnOk result (self.new ≡ with_coin self.old at coin) }

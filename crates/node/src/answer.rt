@@ -50,7 +50,7 @@ impl UnspentOutput {
     {
         Ok(UnspentOutput {
             value: coin.value,
-            script: Script::from_vec(Vec::from_slice(alloc, coin.script.as_slice())?),
+            script: coin.script.clone()?,
             height: coin.height,
             coinbase: coin.coinbase,
             confirmations,

@@ -16,7 +16,7 @@ use crate::learnt::{Learnt, still_early};
 use crate::node::Node;
 use crate::published_history::{Crews, PublishedHistory, Refusal};
 use crate::seat::Seat;
-use crate::writing::{listed, submitting};
+use crate::writing::{is_unknown, listed};
 use chain::{Bytes, PreparedCommand, Reply, SubmitReply};
 use queue::{Threaded, Verdicts};
 use std::mem::replace;
@@ -47,8 +47,10 @@ impl<'t, J: Naming> Seat<'t, J> {
             IfErr result (IsJudgeFault self.old self.new asked) }
     {
         let (_, alloc) = (&self.params, node.alloc);
-        let command = submitting(alloc, Bytes::from_slice(alloc, bytes)?, now)?;
-        self.judge_command(rt, node, &command)
+        let command = self.submitting(alloc, Bytes::from_slice(alloc, bytes)?, now)?;
+        let answer = self.judge_command(rt, node, &command);
+        self.keep_wanting(command, is_unknown(&answer));
+        answer
     }
 
     /// Runs a submission's scripts, takes the lock, and judges it there. What the seat told of signatures is kept.

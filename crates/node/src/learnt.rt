@@ -83,7 +83,7 @@ impl<J: Naming> Learnt<J> {
         if !self.seen.begins(&history) || self.found.find(key, signature, digest).is_some() {
             return;
         }
-        if self.found.learn(key, signature, digest, valid).is_ok() {
+        if self.found.learn_kept(triple, valid).is_ok() {
             self.seen = history;
         }
     }

@@ -9,7 +9,7 @@ use crate::naming::SeatToken;
 use crate::note::Note;
 use crate::published_history::PublishedHistory;
 use crate::reader_home::ReaderHome;
-use chain::Command;
+use chain::{Command, Submission};
 use curve::{KeptTriple, Table};
 use rules::Params;
 use std::alloc::Global;
@@ -33,6 +33,8 @@ pub struct Seat<'t, J: Naming> {
     pub(crate) owed: Vec<Command>,
     /// The signatures that its last call wants which was answered [`Fault::Unknown`](crate::Fault::Unknown).
     pub(crate) wants: Vec<KeptTriple>,
+    /// What was made of the bytes of its last submission, if that wanted signatures.
+    pub(crate) submission: Option<Submission>,
     /// What it told of signatures since its last step of another kind.
     pub(crate) learnt: Learnt<J>,
     pub(crate) reader: ReaderHome<J>,
@@ -141,6 +143,7 @@ impl<'t, J: Naming> Seat<'t, J> {
             answered: 0,
             owed: Vec::new(alloc),
             wants: Vec::new(alloc),
+            submission: None,
             learnt,
             reader: ReaderHome::of(reader),
         }

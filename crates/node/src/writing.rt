@@ -34,7 +34,7 @@ use view::Naming;
 use wire::Memory;
 
 /// The command that submits these bytes.
-pub(crate) fn submitting(alloc: Global, bytes: Bytes, now: u64) -> Result<PreparedCommand, Memory>
+fn submitting(alloc: Global, bytes: Bytes, now: u64) -> Result<PreparedCommand, Memory>
     ensures { IfOk result (λ asked. command_of asked ≡ command.Submit bytes now) }
 {
     let submission = Submission::read(alloc, bytes)?;
@@ -50,6 +50,11 @@ fn is_undecodable(command: &PreparedCommand) -> bool
         PreparedCommand::Submit(submission, _) => submission.block().is_none(),
         _ => false,
     }
+}
+
+/// Whether signatures are wanted.
+pub(crate) fn is_unknown<T>(answer: &Result<Stamped<T>, Fault>) -> bool {
+    matches!(answer, Err(Fault::Unknown))
 }
 
 /// The verdicts as a list.
@@ -94,6 +99,37 @@ impl<'t, J: Naming> Seat<'t, J> {
     ghost use Rattle.node.specs.inside.PublishedState.{PublishedState};
     ghost use Rattle.node.specs.inside.Writing.{IsWriteAnswer, IsLeftBy, IsMark, IsSettledAtMost};
 
+    /// The command that submits these bytes. What was made of them for a call that wanted signatures is taken again.
+    #[tactic(auto, using(crate::proofs::Owning::own_begins))]
+    pub(crate) fn submitting(
+        &mut self,
+        alloc: Global,
+        bytes: Bytes,
+        now: u64,
+    ) -> Result<PreparedCommand, Memory>
+        ensures command { IfOk result (λ asked. command_of asked ≡ command.Submit bytes now) }
+        ensures same { self.new ≡ self.old }
+        ensures own { IsOwn self.new }
+    {
+        let _ = &self.params;
+        if let Some(submission) = self.submission.take() {
+            if submission.bytes().as_slice() == bytes.as_slice() {
+                return Ok(PreparedCommand::Submit(submission, now));
+            }
+        }
+        submitting(alloc, bytes, now)
+    }
+
+    /// Keeps what was made of a submission's bytes, if that wants signatures: it will be made again.
+    pub(crate) fn keep_wanting(&mut self, command: PreparedCommand, wants: bool)
+        ensures { self.new ≡ self.old }
+    {
+        let _ = &self.params;
+        if let PreparedCommand::Submit(submission, _) = command {
+            self.submission = if wants { Some(submission) } else { None };
+        }
+    }
+
     /// Submits the bytes of a block, at a moment in seconds since 1970 (Bitcoin Core's `submitblock`).
     ///
     /// What needs no chain is done before the lock is taken, and the scripts of a block on the best block too. Seat and
@@ -113,8 +149,10 @@ impl<'t, J: Naming> Seat<'t, J> {
             IfErr result (IsWriteFault self.old self.new asked) }
     {
         let (_, alloc) = (&self.params, node.alloc);
-        let command = submitting(alloc, Bytes::from_slice(alloc, bytes)?, now)?;
-        let Stamped { at, value } = self.write(rt, node, &command)?;
+        let command = self.submitting(alloc, Bytes::from_slice(alloc, bytes)?, now)?;
+        let answer = self.write(rt, node, &command);
+        self.keep_wanting(command, is_unknown(&answer));
+        let Stamped { at, value } = answer?;
         match value {
             Reply::Submit(value) => Ok(Stamped { at, value }),
             Reply::Mark(_) => unreachable!(),
@@ -139,8 +177,10 @@ impl<'t, J: Naming> Seat<'t, J> {
             IfErr result (IsWriteFault self.old self.new asked) }
     {
         let (_, alloc) = (&self.params, node.alloc);
-        let command = submitting(alloc, bytes, now)?;
-        let Stamped { at, value } = self.write(rt, node, &command)?;
+        let command = self.submitting(alloc, bytes, now)?;
+        let answer = self.write(rt, node, &command);
+        self.keep_wanting(command, is_unknown(&answer));
+        let Stamped { at, value } = answer?;
         match value {
             Reply::Submit(value) => Ok(Stamped { at, value }),
             Reply::Mark(_) => unreachable!(),
@@ -316,7 +356,7 @@ impl<'t, J: Naming> Seat<'t, J> {
             };
             return Ok(Stamped { at, value });
         }
-        let command = PreparedCommand::Learn(SharedTriple::of(node.alloc, triple)?, valid);
+        let command = PreparedCommand::Learn(SharedTriple::of(triple)?, valid);
         let Stamped { at, .. } = self.write_under_lock(rt, node, history, &command, None)?;
         Ok(Stamped {
             at,

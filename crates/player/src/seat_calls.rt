@@ -138,8 +138,7 @@ where
     let alloc = rt.alloc();
     let mut wants = Vec::new(alloc);
     for triple in seat.wants() {
-        let (key, signature) = (triple.key(), triple.signature());
-        wants.push(KeptTriple::from_parts(alloc, key, signature, triple.digest())?)?;
+        wants.push(triple.copy()?)?;
     }
     for triple in wants.as_slice() {
         let (key, signature, digest) = (triple.key(), triple.signature(), triple.digest());

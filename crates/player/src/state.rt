@@ -88,7 +88,7 @@ fn output_of(alloc: Global, coin: &Coin, height: usize) -> Result<UnspentOutput,
         .saturating_sub(coin.height);
     Ok(UnspentOutput {
         value: coin.value,
-        script: Script::from_vec(Vec::from_slice(alloc, coin.script.as_slice())?),
+        script: coin.script.clone()?,
         height: coin.height,
         coinbase: coin.coinbase,
         confirmations: above.saturating_add(1),

@@ -37,3 +37,9 @@ module _ (count : ℕ) (verdict : ℕ → Answer Bool) where
   abbrev pub Told : {E : Type 0} → (E → Option (List Triple)) → Result (Option ℕ) E → Type 0
   Told told (Ok place) = IsFirst place
   Told told (Err stop) = IfSome (told stop) AreTheWants
+
+-- what two stops tell, one behind the other; out of memory neither is told
+abbrev pub AreOfBoth : Option (List Triple) → Option (List Triple) → List Triple → Type 0
+AreOfBoth None other list = ⊥
+AreOfBoth (Some first) None list = ⊥
+AreOfBoth (Some first) (Some other) list = list ≡ first ++ other

@@ -1,8 +1,10 @@
 //! Who says whether signatures are valid, and how a caller is told that some aren't known.
 
-ghost use Rattle.std.specs.Prelude.{◌≡◌, ◌<◌, List, All, None, Option, Some, length};
+ghost use Rattle.std.specs.Prelude.{◌≡◌, ◌<◌, List, All, None, Option, Some, length, IfSome};
 ghost use Rattle.curve.specs.Triple.{Triple};
+ghost use Rattle.queue.specs.Telling.{AreOfBoth};
 
+use crate::joining::{are_enough, joined};
 use crate::undecided::Undecided;
 use curve::{KeptTriple, KnownSignatures, KnowsSignatures, Table};
 use wire::Memory;
@@ -21,6 +23,13 @@ pub trait Judges: KnowsSignatures {
         requires some { 0 < length wants.items }
         ensures { told result ≡ Some wants.items };
 
+    /// The stop that tells what two tell, one behind the other.
+    fn join(&self, first: Self::Stop, other: Self::Stop) -> Self::Stop
+        ensures { IfSome (told result) (AreOfBoth (told first) (told other)) };
+
+    /// Whether a stop tells so many signatures that no others are looked for; also where it tells none.
+    fn is_enough(&self, stop: &Self::Stop) -> bool;
+
     /// A stop for want of memory tells none.
     ghost memory_tells: { (memory : _) (stop : Self.Stop) → Self.Stop.from_gives memory stop →
         told stop ≡ None };
@@ -37,6 +46,14 @@ impl Judges for Table {
         unreachable!()
     }
 
+    fn join(&self, first: Memory, _other: Memory) -> Memory {
+        first
+    }
+
+    fn is_enough(&self, _stop: &Memory) -> bool {
+        true
+    }
+
     ghost memory_tells = { λ _ _ _. refl };
 }
 
@@ -50,6 +67,14 @@ impl Judges for KnownSignatures {
 
     fn stop(&self, wants: Vec<KeptTriple>) -> Undecided {
         Undecided::Unknown(wants)
+    }
+
+    fn join(&self, first: Undecided, other: Undecided) -> Undecided {
+        joined(first, other)
+    }
+
+    fn is_enough(&self, stop: &Undecided) -> bool {
+        are_enough(stop)
     }
 
     ghost memory_tells = { memory_tells };

@@ -37,7 +37,7 @@ pub fn a_block_takes_few_rounds()
 {}
 
 /// **A command takes at most 402 rounds for each block that it may try, and one call more**: each round wants all that
-/// scripts of one of these blocks want before the first that is refused, and the next one knows it.
+/// scripts of one or more of these blocks want before the first that is refused, and the next one knows it.
 pub fn a_command_takes_few_rounds_a_block()
     ensures { (c : CoreState) (command : Command) (triples : Triples) (rounds : List Known)
         → All (λ known. Agrees known triples) rounds

@@ -144,8 +144,7 @@ where
 fn copies(alloc: Global, triples: &[KeptTriple]) -> Result<Vec<KeptTriple>, Memory> {
     let mut copies = Vec::new(alloc);
     for triple in triples {
-        let (key, signature) = (triple.key(), triple.signature());
-        copies.push(KeptTriple::from_parts(alloc, key, signature, triple.digest())?)?;
+        copies.push(triple.copy()?)?;
     }
     Ok(copies)
 }

@@ -42,7 +42,7 @@ fn script(alloc: Global, bytes: &mut Cursor) -> Result<Script, TxFault>
 {
     let len = bytes.compact()?;
     let piece = bytes.take(len as usize)?;
-    Ok(Script::from_vec(Vec::from_slice(alloc, piece)?))
+    Ok(Script::from_slice(alloc, piece)?)
 }
 
 #[tactic(auto, unfolding(crate::specs::computed::Reading::tx_in_at))]

@@ -125,7 +125,7 @@ impl<'a> CoinReader<'a> {
     {
         let head = self.heads[0];
         let (script, scripts) = self.scripts.split_at(head.script_len);
-        let script = Script::from_vec(Vec::from_slice(alloc, script)?);
+        let script = Script::from_slice(alloc, script)?;
         self.heads = &self.heads[1..];
         self.scripts = scripts;
         Ok(Coin {

@@ -21,8 +21,8 @@ namespace reading {
 Chain::Chain(const Heights &heights, const Bytes &genesis) : heights(heights) {
     auto block = std::make_shared<Block>();
     read_block(genesis, *block);
-    kept.push_back({id_of(block->header), NOWHERE, 0, block, std::make_shared<Coins>(), std::make_shared<Refusal>()});
-    seen.insert(0);
+    kept.push_back({id_of(block->header), NOWHERE, 0, block, std::make_shared<Coins>(), std::make_shared<Refusal>(),
+                    true});
 }
 
 size_t Chain::find(const Id &id) const {
@@ -86,9 +86,10 @@ std::shared_ptr<const Coins> Chain::coins_after(size_t block) {
     return own.coins;
 }
 
+/* Later blocks are looked at first, since most often one of them is it. */
 size_t Chain::active() {
     size_t best = 0;
-    for (size_t n = 1; n < kept.size(); n++)
+    for (size_t n = kept.size() - 1; n > 0; n--)
         if (beats(n, best) && is_usable(n) && coins_after(n))
             best = n;
     return best;
@@ -109,7 +110,7 @@ void Chain::settle() {
                 marked.insert(part);
                 break;
             }
-            seen.insert(part);
+            kept[part].seen = true;
         }
 }
 
@@ -132,14 +133,14 @@ Reply Chain::submit(const Bytes &bytes, uint64_t now) {
     if (const size_t known = find(id); known != NOWHERE) {
         if (!is_usable(known))
             ANSWER("duplicate-invalid");
-        if (seen.count(known))
+        if (kept[known].seen)
             ANSWER("duplicate");
         ANSWER("duplicate-inconclusive");
     }
     if (const Refusal refusal = fault_before_coins(*block, bytes.size(), now); !refusal.reason.empty())
         return {"rejected", refusal};
     const size_t parent = find(block->header.parent), own = kept.size();
-    kept.push_back({id, parent, kept[parent].height + 1, block, nullptr, nullptr});
+    kept.push_back({id, parent, kept[parent].height + 1, block, nullptr, nullptr, false});
     settle();
     if (marked.count(own))
         return {"rejected", *kept[own].refusal};
@@ -186,7 +187,7 @@ Reply Chain::precious(const Id &id) {
 }
 
 std::string Chain::status(size_t block) {
-    return block == active() ? "active" : !is_usable(block) ? "invalid" : seen.count(block) ? "valid-fork" : "valid-headers";
+    return block == active() ? "active" : !is_usable(block) ? "invalid" : kept[block].seen ? "valid-fork" : "valid-headers";
 }
 
 /* ---- Connecting */

@@ -55,6 +55,8 @@ class Chain {
         /* What connecting it came to, once it was tried. */
         std::shared_ptr<const Coins> coins;
         std::shared_ptr<const Refusal> refusal;
+        /* It was part of the active branch, or of one that was tried. */
+        bool seen;
     };
     std::vector<Kept> kept;
     Judge judge;
@@ -81,7 +83,7 @@ class Chain {
     Refusal connect_tx(const Tx &tx, size_t parent, uint32_t height, Coins &coins, uint64_t &sigops, int64_t &fees) const;
 
     Heights heights;
-    std::set<size_t> marked, seen;
+    std::set<size_t> marked;
     std::vector<size_t> preferred;
 };
 

@@ -186,6 +186,33 @@ class LifeTest(unittest.TestCase):
             self.assertEqual(coins.coin(ONE, 0), Coin(-2, b"\x00" * 300, (1 << 32) - 1, True))
             self.assertIsNone(coins.coin(ONE, 1))
 
+    def test_an_input_by_verdicts(self) -> None:
+        """What it asks for is what a second program signs, and the answers are those by tables of lines."""
+        secp, secret = Secp256k1(), bytes(31) + b"\x07"
+        spent = push(secp.public_key(secret)) + b"\xac"
+        bare = write_transaction(tx((ONE, 0), (TWO, 1)))
+        signatures = [secp.sign(secret, consensus.signature_digest(bare, n, spent, 1)) for n in range(2)]
+        data = write_transaction(tx((ONE, 0), (TWO, 1), scripts=[push(it + b"\x01") for it in signatures]))
+        with CoinSet() as coins, consensus.ParsedTransaction(data) as parsed:
+            for n, valid in enumerate((True, False)):
+                asked = coins.verify_input(parsed, n, spent)
+                assert isinstance(asked, consensus.Triple)
+                self.assertEqual(asked.signature, signatures[n])
+                self.assertTrue(secp.valid(asked))
+                coins.learn(asked, valid)
+                found = coins.verify_input(parsed, n, spent)
+                self.assertEqual(found, None if valid else consensus.ScriptError.EVAL_FALSE)
+                tables = (asked.line, b"") if valid else (b"", asked.line)
+                self.assertEqual(found, parsed.verify_input(n, spent, valid=tables[0], invalid=tables[1]))
+            self.assertEqual(coins.verify_input(parsed, 0, b"\x51\xb1", ["P2SH"]), None)
+            with self.assertRaisesRegex(consensus.Refused, "no such input"):
+                coins.verify_input(parsed, 2, spent)
+            coins.close()
+            with self.assertRaises(Closed):
+                coins.verify_input(parsed, 0, spent)
+        with CoinSet() as coins, self.assertRaises(Closed):
+            coins.verify_input(parsed, 0, spent)
+
     def test_closed(self) -> None:
         coins = CoinSet()
         coins.close()

@@ -15,7 +15,10 @@ FFI = os.path.realpath(os.path.join(os.path.dirname(os.path.abspath(__file__)), 
 HEADER, SECP256K1 = f"{FFI}/include/wakotehu.h", f"{FFI}/include/wakotehu-secp256k1.h"
 
 #: Calls that Python doesn't make.
-UNUSED = {"wakotehu_version", "wakotehu_wants", "wakotehu_utxo_wants", "wakotehu_secp256k1_verify"}
+UNUSED = {
+    "wakotehu_version", "wakotehu_wants", "wakotehu_utxo_wants", "wakotehu_secp256k1_verify",
+    "wakotehu_secp256k1_verify_script",
+}  # fmt: skip
 #: Python's types of the header's structs and callbacks.
 STRUCTS: Dict[str, Any] = {
     "wakotehu_heights": library.Heights, "wakotehu_answer": library.Answer, "wakotehu_tip": library.Tip,

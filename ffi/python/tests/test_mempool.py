@@ -105,8 +105,19 @@ class RulesTest(Waiting):
         first = self.spends(self.coins[0], to=b"\x00")
         self.send(first)
         error = self.send(self.spends(first.id, COIN - 1))
-        self.assertEqual((error["code"], error["message"].split(" ")[0]), (-26, "mandatory-script-verify-flag-failed"))
-        self.assertEqual(self.waiting(), {show(first.id)})
+        # By knowledge of Bitcoin Core's texts.
+        failed = "mandatory-script-verify-flag-failed (Script evaluated without error but finished with a false/empty top stack element)"
+        self.assertEqual((error["code"], error["message"]), (-26, failed))
+        script = push(KEYS[0]) + b"\xad\x51"
+        signing = self.spends(self.coins[1], to=script)
+        self.send(signing)
+        tx = self.spends(signing.id, COIN - 1)
+        [other] = signed(SECP, [SECRETS[1]], tx, 0, script)
+        [told] = self.call("testmempoolaccept", [write_transaction(with_script(tx, 0, other)).hex()])
+        self.assertEqual(
+            told["reject-reason"], "mandatory-script-verify-flag-failed (Script failed an OP_CHECKSIGVERIFY operation)"
+        )
+        self.assertEqual(self.waiting(), {show(first.id), show(signing.id)})
 
     def test_a_block_takes_in_what_fits(self):
         """Parents come first; what is too large for one block comes in the next one, with what hangs on it."""

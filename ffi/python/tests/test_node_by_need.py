@@ -11,7 +11,7 @@ import unittest
 
 from blocks import NOW, Maker, block_id, signed, spend, with_script
 from test_node import PROGRAM
-from wakotehu import AsyncNode, Contradiction, Node, Stamped, errors, secp256k1
+from wakotehu import AsyncNode, Bench, Contradiction, Node, Stamped, errors, secp256k1
 from wakotehu.encoding import GENESIS, Input, Output, Transaction, push
 from wakotehu.signatures import Secp256k1
 
@@ -54,15 +54,43 @@ def then(tx, kind=1, right=True):
     return with_script(more, 0, *signed(SECP, SECRETS[: 1 if right else 2][-1:], more, 0, SCRIPT, kind), KEYS[0])
 
 
+def take(tx, place, secret=0):
+    """A transaction that spends an output of one."""
+    more = spend(tx.id, place, tx.outputs[place].value, b"", SCRIPT)
+    return with_script(more, 0, *signed(SECP, SECRETS[secret : secret + 1], more, 0, SCRIPT), KEYS[0])
+
+
 class Counted:
-    """`secp256k1`, which counts what it is asked."""
+    """`secp256k1`, which counts what it is asked, and how often."""
 
     def __init__(self):
-        self.asked = []
+        self.asked, self.rounds = [], 0
 
     def __call__(self, lines):
         self.asked += lines
+        self.rounds += 1
         return secp256k1(lines)
+
+
+class Beside:
+    """Eleven blocks on a fork, and a branch of twelve beside them, which becomes the best by its last. Each of these has three
+    signatures: two spend coins from below the fork, one a coin of the block before."""
+
+    def __init__(self, wrong=None, missing=None):
+        """In the block at `wrong` one isn't valid, the one at `missing` also spends a coin that is spent."""
+        mined = Mined()
+        split = mined.spend(0, outputs=25)
+        fork = mined.block(mined.tip, [split])
+        self.chain = [*mined.chain, fork, *mined.maker.chain(11, block_id(fork), b"\x01")]
+        self.branch, at, last = [], block_id(fork), None
+        for n in range(12):
+            last = then(last) if last else take(split, 24)
+            spends = [take(split, 2 * n, int(n == wrong)), take(split, 2 * n + 1), last]
+            self.branch.append(mined.block(at, spends + [take(split, 0)] * (n == missing), b"\x02"))
+            at = block_id(self.branch[-1])
+
+    def replies(self, submit):
+        return [submit(block) for block in (*self.chain, *self.branch)][len(self.chain) :]
 
 
 class ByNeedTest(unittest.TestCase):
@@ -152,6 +180,45 @@ class ByNeedTest(unittest.TestCase):
             each.append(with_script(tx, 0, *signed(SECP, SECRETS[:1], tx, 0, SCRIPT), KEYS[0]))
         self.assertEqual(seat.submit(mined.block(seat.getbestblockhash().value, each), NOW).value, "accepted")
         self.assertEqual((len(verify.asked), len(set(verify.asked))), (1001, 1001))
+
+    # ---- rounds
+
+    def reorganised(self, beside):
+        """The last reply and the best block, as a node over a table has them, and what was asked in how many rounds."""
+        verify = Counted()
+        seat = self.node(verify, seats=1).seat(0)
+        replies = beside.replies(lambda block: seat.try_submit(block, NOW).value.text)
+        lines = verify.asked
+        valid = [line for line, is_valid in zip(lines, secp256k1(lines)) if is_valid]
+        with Node(program=PROGRAM, seats=1, table=b"\n".join(valid)) as other, Bench() as bench:
+            over = other.seat(0)
+            best = over.getbestblockhash
+            self.assertEqual(beside.replies(lambda block: over.try_submit(block, NOW).value.text), replies)
+            self.assertEqual(best().value, seat.getbestblockhash().value)
+            self.assertEqual(beside.replies(lambda block: bench.try_submit(block, NOW).text), replies)
+            self.assertEqual((bench.best(), bench.rounds, bench.found_out), (best().value, verify.rounds, len(lines)))
+        self.assertEqual(replies[:-1], ["inconclusive"] * 11)
+        # One was asked for below the fork.
+        return replies[-1], seat.getbestblockhash().value, len(lines) - 1, verify.rounds - 1
+
+    def test_a_reorganisation_takes_few_rounds(self):
+        """Not a round for each of its twelve blocks."""
+        beside = Beside()
+        reply, best, asked, rounds = self.reorganised(beside)
+        self.assertEqual((reply, best, asked), ("accepted", block_id(beside.branch[-1]), 12 * 3))
+        self.assertLessEqual(rounds, 3)
+
+    def test_an_invalid_signature_in_its_midst(self):
+        beside = Beside(wrong=3)
+        reply, best, asked, rounds = self.reorganised(beside)
+        self.assertEqual((reply, best, asked), ("inconclusive", block_id(beside.chain[-1]), 12 * 3))
+        self.assertLessEqual(rounds, 3)
+
+    def test_nothing_is_asked_above_a_block_that_breaks_a_rule(self):
+        beside = Beside(missing=4)
+        reply, best, asked, rounds = self.reorganised(beside)
+        self.assertEqual((reply, best, asked), ("inconclusive", block_id(beside.chain[-1]), 4 * 3))
+        self.assertLessEqual(rounds, 3)
 
     # ---- what goes wrong
 

@@ -405,19 +405,22 @@ class SignaturesTest(Callers):
         return [Triple(key, signature[:-1], digest).line.rstrip()]
 
     def forked(self, running):
-        """A branch of two blocks with a signature each, of which the second would make it the higher one; and the active
-        block beside its first."""
+        """A branch of two blocks, of which the second would make it the higher one; and the active block beside its first.
+        The first has one signature. The second has two in one script, which asks for the other once it knows the one."""
         mined = self.mined(running)
-        paid = mined.spend(0)
+        both = push(KEYS[0]) + b"\xad" + push(KEYS[1]) + b"\xac"
+        paid = mined.spend(0, to=both)
+        tx = spend(paid.id, 0, paid.outputs[0].value, b"")
+        one, other = signed(SECP, SECRETS[:2], tx, 0, both)
         first = mined.block(mined.tip, [paid], b"first")
-        second = mined.block(block_id(first), [then(paid)], b"second")
+        second = mined.block(block_id(first), [with_script(tx, 0, other, one)], b"second")
         beside = mined.block(mined.tip, [], b"beside")
         self.assertIsNone(running.call("submitblock", beside.hex()))
         self.assertEqual(running.call("submitblock", first.hex()), "inconclusive")
         return mined, first, second, block_id(beside)
 
     def test_verdicts_between_commands(self):
-        """Two signatures are wanted one after the other. Between the verdicts on them another connection's commands are
+        """Two signatures are wanted at once, and then one. Between the verdicts on them another connection's commands are
         steps, and none waits for a step that is a verdict."""
         asked, go_on, calls = threading.Event(), threading.Event(), []
 
@@ -446,13 +449,14 @@ class SignaturesTest(Callers):
         thread.join(30)
         self.assertEqual(told, ["inconclusive"])
         entries = running.bench.node.seat(0).journal(104).value
-        commands = ["submit", "submit", "submit", "valid", "submit", "precious", "valid", "submit"]
+        commands = ["submit", "submit", "submit", "valid", "valid", "submit", "precious", "valid", "submit"]
         self.assertEqual([entry.command for entry in entries], commands)
+        self.assertEqual(calls, [2, 1])
         self.assertIsNone(connection.call("preciousblock", show(block_id(second))))
         self.assertEqual(connection.call("getbestblockhash"), show(block_id(second)))
 
     def test_verify_that_raises(self):
-        """The call is answered by the error. The verdict before it stands, and later commands go on."""
+        """The call is answered by the error. The verdicts before it stand, and later commands go on."""
         calls = []
 
         def verify(lines):
@@ -468,7 +472,7 @@ class SignaturesTest(Callers):
         told = running.call("submitblock", second.hex())
         self.assertEqual(told, {"code": -1, "message": "ValueError: out of order"})
         commands = [entry.command for entry in running.bench.node.seat(0).journal().value]
-        self.assertEqual((running.call("getbestblockhash"), commands.count("valid")), (show(beside), 1))
+        self.assertEqual((running.call("getbestblockhash"), commands.count("valid")), (show(beside), 2))
         plain = mined.block(beside, [], b"plain")
         self.assertIsNone(running.call("submitblock", plain.hex()))
         self.assertEqual(running.call("submitblock", second.hex()), "inconclusive")

@@ -94,10 +94,19 @@ class ParsedTest(unittest.TestCase):
         spent = push(secp.public_key(secret)) + b"\xac"
         bare = spending([b""] * 3)
         own = [push(secp.sign(secret, c.signature_digest(bare, n, spent, 1)) + b"\x01") for n in range(3)]
-        with c.ParsedTransaction(spending([own[0], own[1], own[0]])) as tx:
+        given = [own[0], own[1], own[0]]
+        data = spending(given)
+        with c.ParsedTransaction(data) as tx:
             for n, right in enumerate((True, True, False)):
                 self.assertEqual(tx.verify(n, spent, signatures="secp256k1"), right)
                 self.assertFalse(tx.verify(n, spent))
+                failed = None if right else c.ScriptError.EVAL_FALSE
+                self.assertEqual(tx.verify_input(n, spent, signatures="secp256k1"), failed)
+                self.assertEqual(c.verify_script(data, n, spent, signatures="secp256k1"), failed)
+                self.assertEqual(c.eval_script(data, n, spent, [given[n][1:]], signatures="secp256k1"), [b"\1" * right])
+                # Each signature signs another code.
+                failed = c.ScriptError.CHECKSIGVERIFY
+                self.assertEqual(tx.verify_input(n, spent[:-1] + b"\xad\x51", signatures="secp256k1"), failed)
                 asked = tx.verify_input(n, spent)
                 assert isinstance(asked, c.Triple)
                 self.assertTrue(tx.verify(n, spent, table=asked.line))

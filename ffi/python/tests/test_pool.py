@@ -10,11 +10,16 @@ from mempool_steps import played
 from test_bench import KEYS, SECP, SECRETS, pay_to_key_hash
 from test_pure import rows
 from wakotehu import Bench, DecodeFailed, NotAccepted, NotFound, Pool, errors, mempool, read_id, show, stage
+from wakotehu.consensus import Triple
 from wakotehu.encoding import (
-    Input, Output, Transaction, block_at_front, hash160, push, read_block, read_transaction, write_transaction,
+    Input, Output, Transaction, block_at_front, hash160, push, read_block, read_transaction, signature_digest,
+    write_transaction,
 )  # fmt: skip
 
 COIN, LAST = 100_000_000, 0xFFFFFFFF
+# What Bitcoin Core says of a script that fails, by knowledge of its texts.
+FAILED = "mandatory-script-verify-flag-failed"
+FALSE = " (Script evaluated without error but finished with a false/empty top stack element)"
 MISSING, LOCKED, CONFLICT = "bad-txns-inputs-missingorspent", "non-BIP68-final", "txn-mempool-conflict"
 
 
@@ -168,7 +173,7 @@ class RulesTest(Waiting):
             (spends(first, 50 * COIN + 1), "bad-txns-in-belowout", "value in (50.00) < value out (50.00000001)"),
             (spends(late), "bad-txns-premature-spend-of-coinbase", "tried to spend coinbase at depth 3"),
             (spends(self.coins[11]), "bad-txns-premature-spend-of-coinbase", "tried to spend coinbase at depth 99"),
-            (spends(first, script=b"\x6a"), "mandatory-script-verify-flag-failed", ""),
+            (spends(first, script=b"\x6a"), FAILED + " (OP_RETURN was encountered)", ""),
             (spends(first, -1), "bad-txns-vout-negative", ""), (Transaction(1, [Input(first, 0, b"", 0)], [], 0), "bad-txns-vout-empty", ""),
             (Transaction(1, [Input(first, 0, b"", 0)] * 2, pay, 0), "bad-txns-inputs-duplicate", ""),
             (Transaction(1, [Input(bytes(32), LAST, b"\x51\x51", 0)], pay, 0), "coinbase", ""),
@@ -212,7 +217,7 @@ class RulesTest(Waiting):
         known = self.pool.entry(first.id)
         self.assertEqual((known.size, self.pool.size), (len(write_transaction(first)), sum(it.size for it in self.pool)))
         again = spends(first.id, 40 * COIN, script=push(b"\x51\xae\x51"))
-        self.refused(again, "mandatory-script-verify-flag-failed")
+        self.refused(again, FAILED + FALSE)
         code = b"\x51\x63\x51\x67" + b"\x51\xae" * 3 + b"\x68"
         paid = spends(self.coins[2], to=b"\xa9\x14" + hash160(code) + b"\x87")
         self.add(paid, spends(paid.id, 45 * COIN, script=push(code)))
@@ -476,7 +481,7 @@ class SignaturesTest(unittest.TestCase):
             for _ in range(2):
                 with self.assertRaises(NotAccepted) as caught:
                     pool.add(write_transaction(wrong))
-                self.assertEqual(caught.exception.reason, "mandatory-script-verify-flag-failed")
+                self.assertEqual(caught.exception.reason, FAILED + FALSE)
                 reply = caught.exception.reply
                 self.assertEqual((reply.text, reply.transaction, reply.input), ("blk-bad-inputs 1:0", 1, 0))
             self.assertEqual((len(bench.journal), bench.found_out), (101, 1))
@@ -486,6 +491,21 @@ class SignaturesTest(unittest.TestCase):
             bench.invalidate(mined)
             self.assertEqual([entry.id for entry in pool], [right.id])
             self.assertEqual(bench.found_out, 2)
+
+    def test_what_the_table_has_is_valid(self):
+        script = push(KEYS[0]) + b"\xad\x6a"
+        maker = Maker(script)
+        blocks = maker.chain(101)
+        tx = spend(maker.coinbases[block_id(blocks[0])].id, 0, COIN, b"", script)
+        [other] = signed(SECP, [SECRETS[1]], tx, 0, script)
+        line = Triple(KEYS[0], other[:-1], signature_digest(tx, 0, script, 1)).line
+        for table, text in ((b"", "Script failed an OP_CHECKSIGVERIFY operation"), (line, "OP_RETURN was encountered")):
+            with Bench(table=table) as bench:
+                for block in blocks:
+                    bench.submit(block, NOW)
+                with self.assertRaises(NotAccepted) as caught:
+                    Pool(bench).test(write_transaction(with_script(tx, 0, other)))
+                self.assertEqual(caught.exception.reason, f"{FAILED} ({text})")
 
 
 class RandomTest(Waiting):
@@ -586,7 +606,7 @@ class StageTest(Waiting):
     def test_refused(self):
         id = self.first.id
         with self.counted() as judge:
-            self.refused(spends(id, 20 * COIN, script=b"\x6a"), "mandatory-script-verify-flag-failed")
+            self.refused(spends(id, 20 * COIN, script=b"\x6a"), FAILED + " (OP_RETURN was encountered)")
             self.refused(spends(id, 21 * COIN), "bad-txns-in-belowout", "value in (20.00) < value out (21.00)")
             self.assertEqual(judge.call_count, 4)
         second = spends(id, 20 * COIN)

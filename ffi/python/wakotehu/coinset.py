@@ -1,12 +1,12 @@
 """Coins that are given: blocks and transactions over them, apart from any chainstate."""
 
 import ctypes
-from typing import List, NamedTuple, Optional, Sequence, Tuple, Union
+from typing import Iterable, List, NamedTuple, Optional, Sequence, Tuple, Union
 
 from . import arguments, errors
 from .arguments import id_of, number, octets
 from .chainstate import REGTEST, Coin, _Held, read_heights
-from .consensus import FAULTS, Refused, Triple
+from .consensus import FAULTS, NAMED, ParsedTransaction, Refused, ScriptError, Triple
 from .library import Coin as _Coin
 from .library import Fault as _Fault
 from .library import Heights, Setting, library
@@ -95,6 +95,13 @@ class CoinSet(_Held):
         words = len(data), number(height, "height"), ctypes.byref(reason), ctypes.byref(fee)
         self._told(self._library.wakotehu_check_tx_inputs(self._handle, data, *words))
         return errors.REASONS[reason.value] or fee.value
+
+    def verify_input(
+        self, tx: ParsedTransaction, input: int, spent: bytes, flags: Iterable[str] = NAMED
+    ) -> Union[None, ScriptError, Triple]:
+        """Why an input of a transaction may not spend a script, None where it may, by the verdicts that the set has learnt; or
+        a triple of which it has none. No table is read, and the set's coins aren't asked."""
+        return arguments.instance(tx, ParsedTransaction, "tx")._verify_known(input, spent, self._handle, flags)
 
     def _told(self, code: int) -> None:
         """Raises what a code says of bytes, or of the handle."""

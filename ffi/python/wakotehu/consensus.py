@@ -11,7 +11,7 @@ from dataclasses import dataclass
 from enum import Enum
 from itertools import accumulate
 from types import TracebackType
-from typing import Any, Callable, Iterable, Iterator, List, NamedTuple, NoReturn, Optional, Sequence, Tuple, Type, Union
+from typing import Any, Callable, Iterable, Iterator, List, NamedTuple, NoReturn, Optional, Sequence, Tuple, Type, TypeVar, Union
 
 from . import arguments, spelling
 from .arguments import id_of, number, octets, signed
@@ -169,6 +169,7 @@ _CALLS = {
     "tx_verify_input": (
         [c_uint64, c_uint64] + _BYTES + [c_uint32] + _BYTES * 2 + [POINTER(c_uint64)] + _YES + _BYTES + [POINTER(c_uint64)]
     ),
+    "tx_verify_input_known": [c_uint64] * 3 + _BYTES + [c_uint32] + _YES + _BYTES + [POINTER(c_uint64)],
     "tx_verify": (
         [c_uint64] + _BYTES + [POINTER(c_uint64), c_size_t, c_uint32] + _BYTES * 2 + [POINTER(c_uint64), POINTER(c_uint64)]
         + _YES + _BYTES + [POINTER(c_uint64)]
@@ -607,8 +608,8 @@ def verify(
     signatures that are valid; its text is read by each call. With `signatures="secp256k1"` libsecp256k1 is asked about
     each other one that the scripts come to."""
     if signatures is not None:
-        arguments.word(signatures, "signatures", ("secp256k1",))
-        return _verify_really(data, input, spent, _words(flags), _text(table, "table"))
+        rules, own = _words(flags), _text(table, "table")
+        return _until_known(lambda *known: verify_known(data, input, spent, rules, *known), own, b"", signatures) is True
     line, yes = c_uint64(), c_uint32()
     asked = (*_sized(data), number(input, "input", 64), *_sized(spent, "spent"), _forced(flags))
     if _call("verify", *asked, *_sized(_text(table, "table")), line, yes) == 3:
@@ -633,12 +634,23 @@ def verify_known(
     return Triple.of_line(room.raw[: needed.value]) if code == 29 else bool(yes.value)
 
 
-def _verify_really(data: bytes, input: int, spent: bytes, flags: List[str], table: bytes) -> bool:
-    """The verdict, where what isn't in the table is found out by libsecp256k1, one after the other."""
-    known = {True: table and table + b"\n", False: b""}
+_Found = TypeVar("_Found")
+
+
+def _until_known(
+    ask: Callable[[bytes, bytes], Union[_Found, Triple]], valid: Union[str, bytes, Table], invalid: Union[str, bytes, Table],
+    signatures: Optional[str],
+) -> Union[_Found, Triple]:  # fmt: skip
+    """What a call answers by two tables. With `signatures="secp256k1"` libsecp256k1 is asked about each triple that is in
+    none, one after the other, and the answer is no triple."""
+    known = {True: _text(valid, "valid"), False: _text(invalid, "invalid")}
+    if signatures is None:
+        return ask(known[True], known[False])
+    arguments.word(signatures, "signatures", ("secp256k1",))
+    known = {it: text and text + b"\n" for it, text in known.items()}
     while True:
-        found = verify_known(data, input, spent, flags, known[True], known[False])
-        if isinstance(found, bool):
+        found = ask(known[True], known[False])
+        if not isinstance(found, Triple):
             return found
         known[_is_valid(found)] += found.line
 
@@ -652,29 +664,32 @@ def _is_valid(triple: Triple) -> bool:
 
 
 def verify_script(
-    data: bytes, input: int, spent: bytes, flags: Iterable[str] = NAMED,
-    valid: Union[str, bytes, Table] = b"", invalid: Union[str, bytes, Table] = b"",
+    data: bytes, input: int, spent: bytes, flags: Iterable[str] = NAMED, valid: Union[str, bytes, Table] = b"",
+    invalid: Union[str, bytes, Table] = b"", signatures: Optional[str] = None,
 ) -> Union[None, ScriptError, Triple]:  # fmt: skip
     """Why an input of a transaction may not spend a script, None where it may, under some of "P2SH", "DERSIG", "CLTV" and
-    "CSV"; or, as by `verify_known`, a triple of which nothing is known."""
-    return _named("verify_script", _sized(data), input, spent, flags, valid, invalid)
+    "CSV"; or, as by `verify_known`, a triple that is not known yet, unless libsecp256k1 is asked as by `verify`."""
+    return _named("verify_script", _sized(data), input, spent, flags, valid, invalid, signatures)
 
 
 def _named(
     call: str, tx: Tuple[Any, ...], input: int, spent: bytes, flags: Iterable[str], valid: Union[str, bytes, Table],
-    invalid: Union[str, bytes, Table],
+    invalid: Union[str, bytes, Table], signatures: Optional[str],
 ) -> Union[None, ScriptError, Triple]:  # fmt: skip
     """What a call that names failures tells of an input."""
-    line, error, needed = c_uint64(), c_uint32(), c_uint64()
-    room = ctypes.create_string_buffer(_MOST_ASKED)
     asked = (*tx, number(input, "input", 64), *_sized(spent, "spent"), _bits(flags))
-    tables = (*_sized(_text(valid, "valid")), *_sized(_text(invalid, "invalid")))
-    code = _call(call, *asked, *tables, line, error, room, _MOST_ASKED, needed)
-    if code == 3:
-        raise BadTable(line.value)
-    if code == 29:
-        return Triple.of_line(room.raw[: needed.value])
-    return ScriptError(error.value) if error.value else None
+
+    def ask(*tables: bytes) -> Union[None, ScriptError, Triple]:
+        line, error, needed = c_uint64(), c_uint32(), c_uint64()
+        room = ctypes.create_string_buffer(_MOST_ASKED)
+        code = _call(call, *asked, *_sized(tables[0]), *_sized(tables[1]), line, error, room, _MOST_ASKED, needed)
+        if code == 3:
+            raise BadTable(line.value)
+        if code == 29:
+            return Triple.of_line(room.raw[: needed.value])
+        return ScriptError(error.value) if error.value else None
+
+    return _until_known(ask, valid, invalid, signatures)
 
 
 class ParsedTransaction:
@@ -698,10 +713,19 @@ class ParsedTransaction:
 
     def verify_input(
         self, input: int, spent: bytes, flags: Iterable[str] = NAMED, valid: Union[str, bytes, Table] = b"",
-        invalid: Union[str, bytes, Table] = b"",
+        invalid: Union[str, bytes, Table] = b"", signatures: Optional[str] = None,
     ) -> Union[None, ScriptError, Triple]:  # fmt: skip
         """What `verify_script` answers for an input of this transaction."""
-        return _named("tx_verify_input", (self._handle,), input, spent, flags, valid, invalid)
+        return _named("tx_verify_input", (self._handle,), input, spent, flags, valid, invalid, signatures)
+
+    def _verify_known(self, input: int, spent: bytes, known: int, flags: Iterable[str]) -> Union[None, ScriptError, Triple]:
+        """What `CoinSet.verify_input` answers: the same by the verdicts of a set of coins, which its handle names."""
+        error, needed = c_uint32(), c_uint64()
+        room = ctypes.create_string_buffer(_MOST_ASKED)
+        asked = (number(input, "input", 64), *_sized(spent, "spent"), _bits(flags))
+        if _call("tx_verify_input_known", self._handle, known, *asked, error, room, _MOST_ASKED, needed) == 29:
+            return Triple.of_line(room.raw[: needed.value])
+        return ScriptError(error.value) if error.value else None
 
     def verify_inputs(
         self, spent: Sequence[bytes], flags: Iterable[str] = NAMED, valid: Union[str, bytes, Table] = b"",
@@ -728,18 +752,14 @@ class ParsedTransaction:
         signatures: Optional[str] = None,
     ) -> bool:  # fmt: skip
         """What `verify` answers for an input of this transaction."""
+        rules, own, invalid = ["P2SH", *_words(flags)], _text(table, "table"), b""
         if signatures is not None:
-            arguments.word(signatures, "signatures", ("secp256k1",))
-        own = _text(table, "table")
-        rules, valid, invalid = ["P2SH", *_words(flags)], own and own + b"\n", b""
+            return self.verify_input(input, spent, rules, own, signatures=signatures) is None
         while True:
-            found = self.verify_input(input, spent, rules, valid, invalid)
+            found = self.verify_input(input, spent, rules, own, invalid)
             if not isinstance(found, Triple):
                 return found is None
-            if signatures is not None and _is_valid(found):
-                valid += found.line
-            else:
-                invalid += found.line
+            invalid += found.line
 
     def close(self) -> None:
         """Gives its memory back. Later calls raise `Closed`; closing twice is fine."""
@@ -767,32 +787,36 @@ class ParsedTransaction:
 
 def eval_script(
     data: bytes, input: int, script: bytes, stack: Sequence[bytes] = (), flags: Iterable[str] = NAMED,
-    valid: Union[str, bytes, Table] = b"", invalid: Union[str, bytes, Table] = b"",
+    valid: Union[str, bytes, Table] = b"", invalid: Union[str, bytes, Table] = b"", signatures: Optional[str] = None,
 ) -> Union[List[bytes], ScriptError, Triple]:  # fmt: skip
     """Runs one script on a stack, whose top is last, with signatures of an input of a transaction: the stack that it
-    leaves, or why it fails; or a triple of which nothing is known."""
-    line, told, needed = c_uint64(), _Evaluated(), c_uint64()
+    leaves, or why it fails; or a triple that is not known yet, unless libsecp256k1 is asked as by `verify`."""
     given = [octets(element, "stack") for element in arguments.sequence(stack, "stack")]
     sizes, joined = (c_uint64 * len(given))(*map(len, given)), b"".join(given)
     asked = (*_sized(data), number(input, "input", 64), *_sized(script, "script"), _bits(flags))
-    tables = (*_sized(_text(valid, "valid")), *_sized(_text(invalid, "invalid")))
-    most, room = 1000 + len(given), ctypes.create_string_buffer(_MOST_ASKED)
-    left_sizes, left = (c_uint64 * most)(), ctypes.create_string_buffer(65536)
-    while True:
-        rooms = (left_sizes, most, left, len(left), room, _MOST_ASKED, needed)
-        code = _call("eval_script", *asked, sizes, len(given), joined, len(joined), *tables, line, told, *rooms)
-        if code != 5 or told.size <= len(left):
-            break
-        left = ctypes.create_string_buffer(told.size)
-    if code == 3:
-        raise BadTable(line.value)
-    if code == 29:
-        return Triple.of_line(room.raw[: needed.value])
-    if told.error:
-        return ScriptError(told.error)
-    ends = list(accumulate(left_sizes[: told.elements]))
-    raw = left.raw[: told.size]
-    return [raw[begin:end] for begin, end in zip([0, *ends], ends)]
+    most, left_sizes = 1000 + len(given), (c_uint64 * (1000 + len(given)))()
+
+    def ask(*tables: bytes) -> Union[List[bytes], ScriptError, Triple]:
+        line, told, needed = c_uint64(), _Evaluated(), c_uint64()
+        left, room = ctypes.create_string_buffer(65536), ctypes.create_string_buffer(_MOST_ASKED)
+        known = (*_sized(tables[0]), *_sized(tables[1]), line)
+        while True:
+            rooms = (left_sizes, most, left, len(left), room, _MOST_ASKED, needed)
+            code = _call("eval_script", *asked, sizes, len(given), joined, len(joined), *known, told, *rooms)
+            if code != 5 or told.size <= len(left):
+                break
+            left = ctypes.create_string_buffer(told.size)
+        if code == 3:
+            raise BadTable(line.value)
+        if code == 29:
+            return Triple.of_line(room.raw[: needed.value])
+        if told.error:
+            return ScriptError(told.error)
+        ends = list(accumulate(left_sizes[: told.elements]))
+        raw = left.raw[: told.size]
+        return [raw[begin:end] for begin, end in zip([0, *ends], ends)]
+
+    return _until_known(ask, valid, invalid, signatures)
 
 
 _FORCED = ("DERSIG", "CLTV", "CSV")

@@ -33,6 +33,8 @@ _WORDS = {
     "bad-blk-sigops": "bad-txns-too-many-sigops", "bad-txns-nonfinal": "non-BIP68-final", "bad-txns-BIP30": "txn-already-known",
     "blk-bad-inputs": "mandatory-script-verify-flag-failed",
 }  # fmt: skip
+#: The rules of scripts of the soft forks, in the order of a chainstate's heights.
+_RULES = ("", "CLTV", "DERSIG", "CSV")
 #: What is said where no block has room, so that none is judged.
 _NO_ROOM = Reply("no room", "no room", "", 0, 0)
 
@@ -217,6 +219,10 @@ class Mempool(Waiting):
 
     def stage(self) -> Optional[Stage]:
         """A stage on the active block, or None."""
+        raise NotImplementedError
+
+    def is_valid(self, triple: consensus.Triple) -> bool:
+        """Whether the chainstate takes a signature for valid."""
         raise NotImplementedError
 
     # ---- the active branch
@@ -433,7 +439,21 @@ class Mempool(Waiting):
         if reason == "bad-txns-premature-spend-of-coinbase":
             deep = [self.tip().height + 1 - coin.height for coin in coins if coin.coinbase]
             more = f"tried to spend coinbase at depth {next((it for it in deep if it < MATURITY), 0)}"
-        return NotAccepted(_WORDS.get(reason, reason), more, reply)
+        failure = self._failure(reply.input, entry, among) if reason == "blk-bad-inputs" else ""
+        return NotAccepted(_WORDS.get(reason, reason) + failure, more, reply)
+
+    def _failure(self, input: int, entry: Entry, among: Waiting) -> str:
+        """Why an input may not spend its script, as Bitcoin Core adds it; "" where it may: then another transaction's may not."""
+        coin = dict(enumerate(self._coins(entry.tx, among))).get(input)
+        if coin is None:
+            return ""
+        rules = ["P2SH", *(rule for rule, is_on in zip(_RULES, self._forks) if is_on and rule)]
+        known = {True: b"", False: b""}
+        while True:
+            found = consensus.verify_script(entry.data, input, coin.script, rules, known[True], known[False])
+            if not isinstance(found, consensus.Triple):
+                return f" ({found.text})" if found else ""
+            known[self.is_valid(found)] += found.line
 
 
 def _money(satoshis: int) -> str:

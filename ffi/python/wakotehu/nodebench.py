@@ -9,6 +9,7 @@ from typing import Callable, Dict, Iterator, List, NamedTuple, NoReturn, Optiona
 from . import ahead, errors
 from .arguments import Path, id_of, lines, octets, path
 from .chainstate import Coin, Reply, Tip
+from .consensus import Table, Triple
 from .encoding import EncodingError, Spelled, block_at_front, double_sha
 from .history import LOG, VERDICTS, past_of
 from .index import Index, Unspent, Walks
@@ -338,6 +339,12 @@ class NodeBench(Walks):
             return self._shadow.stage(ids, self._data)
 
     # ---- signatures
+
+    def is_valid(self, triple: Triple) -> bool:
+        """Whether the node takes a signature for valid, or would, once it asked."""
+        if self.known is None:
+            return Table(self.table).has(*triple)
+        return self.known.verdicts([triple.line[:-1]])[0]
 
     def _verdicts(self, lines: Sequence[bytes]) -> List[bool]:
         """Which signatures are valid that this thread's command wants. Other threads call meanwhile."""

@@ -7,6 +7,7 @@ from .addresses import script_of
 from .arguments import id_of, instance, number, octets, text
 from .bench import Bench
 from .chainstate import Coin
+from .consensus import Table, Triple
 from .encoding import coinbase, mine_spelled, subsidy, write_transaction
 from .errors import NotFound, TooMany
 from .mempool import MOST_BYTES, Entry, Mempool
@@ -29,6 +30,9 @@ class _Mempool(Mempool):
             return Stage(self._own.chain.copy(), self.tip().header.time, self._own._find_out)
         except TooMany:
             return None
+
+    def is_valid(self, triple: Triple) -> bool:
+        return Table(self._own.table).has(*triple) or self._own._test([triple])[triple]
 
 
 class Pool:

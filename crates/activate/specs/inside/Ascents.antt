@@ -1,5 +1,5 @@
 -- Words for the walk up a path, block by block. No public clause needs them.
-use Rattle.std.specs.Prelude.{◌≡◌, ℕ, ◌<◌, ◌≤◌, true, List, [], ◌∷◌, length, map, reverse}
+use Rattle.std.specs.Prelude.{◌≡◌, ℕ, ◌<◌, ◌≤◌, true, List, [], ◌∷◌, length, map, reverse, Option, Some, None, IfSome}
 use Rattle.hash.specs.declared.id.Id.{Id}
 use Rattle.block.specs.declared.block.Block.{Block}
 use Rattle.coins.specs.declared.coin.Coin.{Coin}
@@ -14,6 +14,7 @@ use Rattle.activate.specs.Lookups.{undo_at}
 use Rattle.activate.specs.Wants.{AreWantedAt}
 use Rattle.curve.specs.Known.{Known}
 use Rattle.curve.specs.Triple.{Triple}
+use Rattle.queue.specs.Telling.{AreOfBoth}
 use Rattle.rules.specs.declared.params.Params.{Params}
 
 -- the highest of these places above the fork f, or f where there is none
@@ -46,3 +47,12 @@ pub record IsTop (r : Rules Block Id) (t : Blocks Block) (f : ℕ) (up : List �
   pub good : branch_connects r t (top_of f up) ≡ true
   pub spent : undo ≡ reverse (map (undo_at t) up)
   pub applied : IsApplied t (top_of f up) base layer medians
+
+-- ---- what is wanted on the way
+
+-- what is wanted so far, what the next block wants beside it, and what is wanted then; told is how a stop tells
+abbrev pub AreMore : {Stop : Type 0} → (Stop → Option (List Triple)) → Option Stop → Option Stop → Option Stop → Type 0
+AreMore told so_far None found = found ≡ so_far
+AreMore told None (Some next) found = found ≡ Some next
+AreMore {Stop} told (Some first) (Some next) found =
+    (both : Stop) × (found ≡ Some both) × IfSome (told both) (AreOfBoth (told first) (told next))

@@ -10,7 +10,7 @@ ghost use Rattle.chain.specs.Submitted.{IsJudged};
 ghost use Rattle.chain.specs.Try.{state_after_try};
 ghost use Rattle.chain.specs.Regtest.{regtest};
 ghost use Rattle.activate.specs.CoreState.{CoreState, Follows, coins_of};
-ghost use Rattle.activate.specs.Wants.{AreWantedToSettle};
+ghost use Rattle.activate.specs.Wants.{AreJoined, AreWantedToSettle};
 ghost use Rattle.activate.specs.inside.Paths.{IsActiveBranch, IsAttempt, IsValid, AreWantedOnWay};
 ghost use Rattle.activate.specs.inside.Preparation.{CanFlag, IsSettledBy, IsTried, core_of, core_with_block, reply_to_failed_try};
 ghost use Rattle.curve.specs.Known.{Under};
@@ -89,8 +89,8 @@ impl Core {
             Under (S.known env.now) (λ triples. let c = self.now in
             IsAttempt (regtest c.params triples) c.state.blocks c.active place attempt)) }
         ensures wants { IfErr result (λ stop. IfSome (S.told stop)
-            (AreWantedOnWay self.now.params self.now.state.blocks self.now.active place
-            (S.known env.now))) }
+            (AreJoined (AreWantedOnWay self.now.params self.now.state.blocks self.now.active
+            place (S.known env.now)))) }
     {
         self.active_branch()
             .try_block(alloc, base, place, env, gate)

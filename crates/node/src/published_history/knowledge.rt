@@ -50,9 +50,7 @@ impl Knowledge {
     {
         match self {
             Knowledge::Table(_) => Ok(()),
-            Knowledge::Found(found) => {
-                found.learn(triple.key(), triple.signature(), triple.digest(), valid)
-            }
+            Knowledge::Found(found) => found.learn_kept(triple, valid),
         }
     }
 }

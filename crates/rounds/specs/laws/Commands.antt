@@ -1,9 +1,9 @@
 -- A command takes no more rounds than its blocks, one after the other.
 use Rattle.std.specs.Prelude.{All, if◌then◌else◌}
-use Rattle.std.proofs.Common.{◌≡◌, ◌≢◌, ℕ, zero, suc, ◌+◌, ◌*◌, ◌<◌, ◌≤◌, List, [], ◌∷◌, Bool, true, false, None, Option, Some, length, refl, sym, ap, ◌∙◌, subst, ⊎_elim, arith}
+use Rattle.std.proofs.Common.{◌≡◌, ◌≢◌, ℕ, zero, suc, ◌+◌, ◌*◌, ◌<◌, ◌≤◌, List, [], ◌∷◌, ◌++◌, Bool, true, false, None, Option, Some, length, refl, sym, ap, ◌∙◌, subst, ⊎_elim, arith}
 use Rattle.std.proofs.lemmas.Bool.{cases_eq}
-use Rattle.std.proofs.lemmas.List.Elements.{All-head}
-use Rattle.std.specs.List.{filter}
+use Rattle.std.proofs.lemmas.List.Elements.{All-nil, All-cons, All-head, All-tail}
+use Rattle.std.specs.List.{filter, flat_map}
 use Rattle.std.specs.Option.{option_and_then, option_map}
 use Rattle.hash.specs.declared.id.Id.{Id}
 use Rattle.block.specs.declared.block.Block.{Block}
@@ -23,8 +23,21 @@ use Rattle.chain.specs.declared.command.Command.{Command}
 use Rattle.chain.specs.declared.command.Command.TheVariants as command
 use Rattle.activate.specs.CoreState.{CoreState, branch_blocks, coins_after}
 use Rattle.rounds.specs.Tries.{may_be_tried, most_tries, request_of, state_to_settle, tries_in}
-use Rattle.activate.specs.Wants.{AreWantedBy, AreWantedByStep, AreWantedToSettle}
+use Rattle.activate.specs.Wants.{AreJoined, AreWantedBy, AreWantedByStep, AreWantedByTried, AreWantedToSettle}
 
+-- ---- the first of several lists one behind the other
+all-first : (P : Triple → Type 0) (first others : List Triple) → All P (first ++ others) → All P first
+all-first P [] others all = All-nil P
+all-first P (t ∷ first) others all = All-cons P t first (All-head P t (first ++ others) all) (all-first P first others (All-tail P t (first ++ others) all))
+
+first-of : (Is : List Triple → Type 0) (list : List Triple) → AreJoined Is list → (first : List Triple) × (others : List Triple) × Is first × (list ≡ first ++ others)
+first-of Is list w = by w.parts w.some w.each w.list_is
+  where
+    by : (parts : List (List Triple)) → 0 < length parts → All Is parts → list ≡ flat_map (λ part. part) parts → (first : List Triple) × (others : List Triple) × Is first × (list ≡ first ++ others)
+    by [] some each is = absurd (omega (arith, some))
+    by (part ∷ parts) some each is = (part, flat_map (λ part. part) parts, All-head Is part parts each, is)
+
+-- ---- the blocks that may be tried
 module _ (c : CoreState) (triples : Triples) (s : State Block) where
   -- the scripts of the block at a place
   abbrev checks_at : ℕ → List Check
@@ -86,7 +99,7 @@ module _ (c : CoreState) (triples : Triples) (s : State Block) where
   abbrev Wants : Known → List Triple → Type 0
   Wants known list = AreWantedToSettle (record c { state = s }) known list × Agrees known triples
 
-  tried : (known : Known) (list : List Triple) (w : AreWantedToSettle (record c { state = s }) known list) → Agrees known triples → may_be_tried c triples s w.place ≡ true
+  tried : (known : Known) (list : List Triple) (w : AreWantedByTried (record c { state = s }) known list) → Agrees known triples → may_be_tried c triples s w.place ≡ true
   tried known list w agrees = rw (w.candidate triples agrees, w.inactive) refl
 
   pub tries-rounds : (rounds : List Known) → AreRounds Wants rounds → length rounds ≤ max_rounds * tries_in c triples (Some s)
@@ -94,16 +107,21 @@ module _ (c : CoreState) (triples : Triples) (s : State Block) where
       rounds-within Wants (λ known. tries_left known (places s.blocks)) (402 * length (filter (may_be_tried c triples s) (places s.blocks))) some lowers (λ known. tries-within known (places s.blocks)) rounds h
     where
       some : (known : Known) (list : List Triple) → Wants known list → 0 < tries_left known (places s.blocks)
-      some known list (w, agrees) =
+      some known list (all, agrees) =
+          let first = first-of (AreWantedByTried (record c { state = s }) known) list all in
+          let w = first.2 in
           let wants = w.wanted.scripts in
           let left = block-some known (checks_at w.place) (subst (λ (l : List Triple). 0 < length l) wants.1 wants.0) in
-          tries-some known (length s.blocks) w.place w.kept (rw (tried known list w agrees) left)
+          tries-some known (length s.blocks) w.place w.kept (rw (tried known first.0 w agrees) left)
 
       lowers : (known next : Known) (list : List Triple) → Wants known list → Grows known next → All (λ t. next t ≢ None) list → tries_left next (places s.blocks) < tries_left known (places s.blocks)
-      lowers known next list (w, agrees) grows found =
+      lowers known next list (all, agrees) grows found =
+          let first = first-of (AreWantedByTried (record c { state = s }) known) list all in
+          let w = first.2 in
           let wants = w.wanted.scripts in
-          let less = block-found known next grows (checks_at w.place) (subst (λ (l : List Triple). 0 < length l) wants.1 wants.0) (subst (All (λ t. next t ≢ None)) wants.1 found) in
-          tries-found known next grows (length s.blocks) w.place w.kept (rw (tried known list w agrees) less)
+          let here = all-first (λ t. next t ≢ None) first.0 first.1 (subst (All (λ t. next t ≢ None)) first.3 found) in
+          let less = block-found known next grows (checks_at w.place) (subst (λ (l : List Triple). 0 < length l) wants.1 wants.0) (subst (All (λ t. next t ≢ None)) wants.1 here) in
+          tries-found known next grows (length s.blocks) w.place w.kept (rw (tried known first.0 w agrees) less)
 
 -- ---- a command
 -- the state in which blocks are tried is the same in each round

@@ -3,6 +3,7 @@
 from contextlib import contextmanager
 from typing import TYPE_CHECKING, Iterator, Optional
 
+from ..consensus import Triple
 from ..mempool import MOST_BYTES, Entry, Mempool
 from ..nodebench import Move
 from ..stage import Stage
@@ -37,6 +38,9 @@ class ServedMempool(Mempool):
 
     def stage(self) -> Optional[Stage]:
         return self.node.bench.stage()
+
+    def is_valid(self, triple: Triple) -> bool:
+        return self.node.bench.is_valid(triple)
 
     def moved(self, move: Move) -> None:
         """Takes up a move of the active branch; what blocks that left had comes back when the mempool is used next."""

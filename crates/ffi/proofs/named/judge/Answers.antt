@@ -3,4 +3,4 @@ use Rattle.std.proofs.Common.{sym}
 use Rattle.ffi.proofs.named.judge.Goals as goal
 
 pub returns : goal.returns
-returns c = rw (sym c.flags_in-flags.ensures) c.verify_script.ensures
+returns g c = rw (sym c.flags_in-flags.ensures) c.verify_script.ensures

@@ -6,7 +6,7 @@ use Rattle.ffi.specs.Known.{IsLineTold, asked_of}
 use Rattle.ffi.proofs.named.tell_failure.Goals as goal
 
 pub returns-in-Err-Unknown : goal.returns-in-Err-Unknown
-returns-in-Err-Unknown c =
+returns-in-Err-Unknown g c =
     let before = asked_of c.args.asked.now c.args.count.now in
     let after = asked_of c.tell_line.new.asked c.tell_line.new.count in
     ⊎_elim

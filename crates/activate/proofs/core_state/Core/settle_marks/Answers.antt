@@ -12,6 +12,7 @@ use Rattle.activate.specs.declared.path.Attempt.{Attempt}
 use Rattle.activate.specs.declared.path.Attempt.TheVariants.{Fails}
 use Rattle.activate.specs.declared.path.FailedTry.{FailedTry}
 use Rattle.activate.specs.CoreState.{CoreState}
+use Rattle.activate.specs.Wants.{AreJoined}
 use Rattle.activate.specs.inside.Paths.{AreWantedOnWay, FailsAt, IsAttempt, IsValid, LeadsTo}
 use Rattle.activate.specs.inside.Preparation.{HasOtherMarks, IsFailedTry, TriesLead}
 use Rattle.activate.proofs.Plans.{fewer-unmarked, tries_more, tries_none}
@@ -58,7 +59,7 @@ returns-in_err-found-clause-wants g c =
     let passed = err_from_is_err_and c.from_residual.result c.from_residual.ensures.1 in
     rw (passed.1, passed.2) (wanted_before a c.args.overlay t known lead.other c.tries.invariant _
     (wanted_best (record a { state = t }) known p (λ triples agrees. (c.tries.invariant triples agrees).can) c.best_usable-place.ensures _
-    (subst (λ (u : Blocks Block). IfSome (g.S.RunsScripts.told c.in_err-found.field-0.0) (AreWantedOnWay a.params u a.active p known)) (sym (same (regtest a.params triples) a c.args.overlay t c.requires.other lead)) c.in_err-found.ensures.wants)))
+    (subst (λ (u : Blocks Block). IfSome (g.S.RunsScripts.told c.in_err-found.field-0.0) (AreJoined (AreWantedOnWay a.params u a.active p known))) (sym (same (regtest a.params triples) a c.args.overlay t c.requires.other lead)) c.in_err-found.ensures.wants)))
 
 pub returns-in-Succeeds-clause-prepared : goal.returns-in-Succeeds-clause-prepared
 returns-in-Succeeds-clause-prepared g c triples agrees =

@@ -4,6 +4,7 @@ use Rattle.std.proofs.lemmas.Result.{err_from_is_err_and}
 use Rattle.tree.specs.State.{beats, with_block}
 use Rattle.chain.specs.Regtest.{regtest}
 use Rattle.activate.specs.CoreState.{CoreState}
+use Rattle.activate.specs.Wants.{AreJoined}
 use Rattle.activate.specs.inside.Paths.{AreWantedOnWay, IsAttempt, IsValid}
 use Rattle.activate.specs.inside.Preparation.{CanTry, core_with_block}
 use Rattle.activate.proofs.NewBlock.{alone_new, below_new, best_new, can_new, settled_beside, tried_new}
@@ -59,7 +60,7 @@ returns-in_err-attempt-clause-wants g c =
     rw (passed.1, passed.2) (wanted_best (core_with_block a b p) known (suc (length a.state.blocks))
     (λ triples agrees. can_new triples a (c.requires.follows triples agrees) c.requires.new.0 b p (c.requires.new.1 triples agrees))
     (best_new triples a (c.requires.follows triples agrees) c.requires.new.0 b p (c.requires.new.1 triples agrees) better) _
-    (subst (λ (x : CoreState). IfSome (g.S.RunsScripts.told c.in_err-attempt.field-0.0) (AreWantedOnWay x.params (record { block = b; parent = p } ∷ x.state.blocks) x.active (suc (length x.state.blocks)) known)) c.active_branch-active_branch.ensures.core c.in_err-attempt.ensures.wants))
+    (subst (λ (x : CoreState). IfSome (g.S.RunsScripts.told c.in_err-attempt.field-0.0) (AreJoined (AreWantedOnWay x.params (record { block = b; parent = p } ∷ x.state.blocks) x.active (suc (length x.state.blocks)) known))) c.active_branch-active_branch.ensures.core c.in_err-attempt.ensures.wants))
 
 pub settled_by-requires : goal.settled_by-requires
 settled_by-requires g c =

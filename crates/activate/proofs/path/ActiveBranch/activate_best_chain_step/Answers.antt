@@ -5,13 +5,13 @@ use Rattle.tree.specs.laws.Above.{above}
 use Rattle.activate.specs.declared.path.BranchPath.{BranchPath}
 use Rattle.chain.specs.Regtest.{medians_of, regtest}
 use Rattle.chain.specs.laws.Candidates.{valid_below}
-use Rattle.activate.specs.CoreState.{branch_blocks}
+use Rattle.activate.specs.CoreState.{branch_blocks, coins_after}
 use Rattle.activate.specs.inside.Paths.{IsPath, IsStop}
 use Rattle.activate.specs.inside.Ascents.{top_of, LeadsUp}
 use Rattle.activate.specs.laws.Climbing.{top-above, height-below, length-branch, length-medians_at, medians-shared, were-connected}
 use Rattle.std.proofs.lemmas.List.{length-take-le}
 use Rattle.std.proofs.lemmas.Result.{err_from_is_err_and}
-use Rattle.activate.proofs.Wanted.{wanted_on-way}
+use Rattle.activate.proofs.Wanted.{either_way, wanted_on-way}
 use Rattle.activate.proofs.path.ActiveBranch.activate_best_chain_step.Goals as goal
 
 -- a path leads to its block, from a block of the active branch
@@ -113,8 +113,12 @@ returns-in_err-answer-clause-wants g c =
 
 pub returns-clause-top : goal.returns-clause-top
 returns-clause-top g c =
-    ok_map c.in_ok-answer.answer (λ ascent top triples agrees.
-    let of = top triples agrees in
+    let b = c.args.self.now in
+    let t = b.tree.now.blocks in
+    let path = c.in_ok-path.path in
+    let w = c.in_ok-path.ensures.path in
+    ok_map c.in_ok-answer.answer (λ climb top. either_way climb.wants (λ connect triples agrees.
+    let of = connect triples agrees in
     record {
       good = of.good;
       spent = of.spent;
@@ -123,7 +127,19 @@ returns-clause-top g c =
         base_is = of.applied.base_is ∙ c.in_ok-layer.ensures.base ∙ c.over.ensures.below;
         medians_are = of.applied.medians_are;
       };
-    }) c.in_ok-answer.ensures.top
+    })
+    (λ stop are. wanted_on-way b.params.now (g.S.RunsScripts.known c.args.env.now) t b.active c.args.place path.fork (top_of path.fork path.up.items) (leads t b.active c.args.place path w c.requires.place) w.shared (g.S.RunsScripts.told stop) are)
+    top) c.in_ok-answer.ensures.top
+
+pub returns-clause-applied : goal.returns-clause-applied
+returns-clause-applied g c =
+    let t = c.args.self.now.tree.now.blocks in
+    let at = leads t c.args.self.now.active c.args.place c.in_ok-path.path c.in_ok-path.ensures.path c.requires.place in
+    ok_map c.in_ok-answer.answer (λ climb applied. record {
+      left = applied.left ∙ ap (coins_after t) at;
+      base_is = applied.base_is ∙ c.in_ok-layer.ensures.base ∙ c.over.ensures.below;
+      medians_are = applied.medians_are ∙ ap (λ (q : ℕ). reverse (medians_of (branch_blocks t q))) at;
+    }) c.in_ok-answer.ensures.applied
 
 pub returns-clause-stops : goal.returns-clause-stops
 returns-clause-stops g c =

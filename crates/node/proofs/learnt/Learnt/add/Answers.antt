@@ -10,5 +10,5 @@ invariant_of-self g c =
     let before = c.self.inside in
     let none : verdict_in before.found t ≡ None = search rules in
     let goes : IsPrefix before.seen.entries c.args.history.entries = search rules in
-    let more : c.learn.new.self ≡ with_verdict before.found t c.args.valid = search rules in
+    let more : c.learn_kept.new.self ≡ with_verdict before.found t c.args.valid = search rules in
     rw (more) (learnt_more g.J.Naming.origin before.seen c.args.history before.found t c.args.valid c.self.invariant c.requires.book c.requires.legal goes c.requires.known none)

@@ -3,6 +3,3 @@ use Rattle.node.proofs.seat.Seat.judge.Goals as goal
 
 pub returns-in_err-from_slice-clause-own : goal.returns-in_err-from_slice-clause-own
 returns-in_err-from_slice-clause-own g c = let s = c.self.inside in rw (← c.self.view_is) (own_begins s.token s.answered s.seen.entries s.owed.items)
-
-pub returns-in_err-command-clause-own : goal.returns-in_err-command-clause-own
-returns-in_err-command-clause-own g c = let s = c.self.inside in rw (← c.self.view_is) (own_begins s.token s.answered s.seen.entries s.owed.items)

@@ -1,16 +1,16 @@
-use Rattle.std.proofs.Common.{◌≡◌, ◌<◌, length, set, sym, ap, ◌∙◌, arith}
+use Rattle.std.proofs.Common.{◌≡◌, ◌<◌, List, ℕ, get_or, length, set, sym, ap, ◌∙◌, arith}
 use Rattle.curve.specs.Known.{Verdicts, verdict_in, with_verdict}
-use Rattle.curve.specs.Triple.{Triple, triple_of}
+use Rattle.curve.specs.Triple.{Triple}
 use Rattle.curve.specs.inside.Parts.{part_of, part_at, whole}
 use Rattle.std.proofs.lemmas.Result.{on_ok_weaker}
 use Rattle.curve.proofs.Found.{at-read, verdict-in, whole-more}
-use Rattle.curve.proofs.known_signatures.KnownSignatures.learn.Goals as goal
+use Rattle.curve.proofs.known_signatures.KnownSignatures.learn_kept.Goals as goal
 
 pub learn-requires : goal.learn-requires
 learn-requires c =
     let parts = c.add_parts.new.parts.items in
-    let t : Triple = triple_of c.args.key.now c.args.signature.now c.args.digest.now in
-    let k : c.from-place.result ≡ part_of t = c.from-place.ensures in
+    let t : Triple = c.args.triple.now in
+    let k : c.from-place.result ≡ part_of t = c.from-place.ensures ∙ ap (λ (d : List ℕ). get_or d 0 0) c.digest.ensures in
     let long = c.in_ok-add_parts.ensures.long in
     let within : c.from-place.result < length parts = omega (arith, long) in
     let read : c.index_mut.result.now ≡ part_at parts (part_of t) = at-read parts c.from-place.result c.index_mut.result.now within c.index_mut.ensures.value ∙ ap (part_at parts) k in
@@ -19,9 +19,9 @@ learn-requires c =
 pub returns-clause-ok : goal.returns-clause-ok
 returns-clause-ok c =
     let parts = c.add_parts.new.parts.items in
-    let t : Triple = triple_of c.args.key.now c.args.signature.now c.args.digest.now in
+    let t : Triple = c.args.triple.now in
     let valid = c.args.valid in
-    let k : c.from-place.result ≡ part_of t = c.from-place.ensures in
+    let k : c.from-place.result ≡ part_of t = c.from-place.ensures ∙ ap (λ (d : List ℕ). get_or d 0 0) c.digest.ensures in
     let long = c.in_ok-add_parts.ensures.long in
     let within : c.from-place.result < length parts = omega (arith, long) in
     let there : part_of t < length parts = rw (sym k) within in

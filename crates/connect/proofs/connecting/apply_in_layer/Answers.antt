@@ -1,6 +1,5 @@
-use Rattle.std.proofs.Common.{◌≡◌, ◌≤◌, ◌-◌, List, length, take, drop, Option, Some, None, sym, ap, subst, ◌∙◌, arith}
+use Rattle.std.proofs.Common.{◌≡◌, ◌≤◌, ◌-◌, List, length, take, drop, Option, Some, None, Result, Ok, Err, IfOk, IfErr, sym, ap, subst, ◌∙◌, arith}
 use Rattle.std.specs.List.{AllByRecursion}
-use Rattle.std.proofs.lemmas.Result.{err_from_is_err_and}
 use Rattle.txn.specs.declared.tx.Tx.{Tx}
 use Rattle.txn.specs.declared.reason.Reason.{Reason}
 use Rattle.txn.specs.First.{first_broken}
@@ -18,7 +17,7 @@ use Rattle.connect.specs.inside.Listing.{checks_from}
 use Rattle.connect.specs.inside.Turns.{IsLawful}
 use Rattle.connect.specs.laws.Alone.{lawful_block}
 use Rattle.connect.proofs.Whole.{Listed, listed, fault_is}
-use Rattle.connect.proofs.connecting.connect_in_layer.Goals as goal
+use Rattle.connect.proofs.connecting.apply_in_layer.Goals as goal
 
 pub connect_txs-requires-clause-some : goal.connect_txs-requires-clause-some
 connect_txs-requires-clause-some g c =
@@ -61,34 +60,40 @@ answered s m b slice txs undo triples rules answer found l is same none refused 
     fault_is s m b.txs triples found (ap (λ (l : List Tx). first_broken (connect_rules s m l)) (sym same) ∙ none)
     (subst (λ (k : List Check). IsFirstRefused triples k found) (l.checks rules is) (subst (λ o. IsFirstRefused triples (checks_from (flags_of rules) 1 (take (length slice - 1) (drop 1 slice)) undo) o) told refused))
 
-pub returns-in-Some-clause-fault : goal.returns-in-Some-clause-fault
-returns-in-Some-clause-fault g c triples agrees =
+-- what the queue answers
+ok_part : {T E : Type 0} (P : T → Type 0) (r : Result T E) (x : T) → r ≡ Ok x → IfOk r P → P x
+ok_part P r x e h = subst (λ a. IfOk a P) e h
+
+err_part : {T E : Type 0} (P : E → Type 0) (r : Result T E) (x : E) → r ≡ Err x → IfErr r P → P x
+err_part P r x e h = subst (λ a. IfErr a P) e h
+
+pub returns-in-Ok-Some-clause-fault : goal.returns-in-Ok-Some-clause-fault
+returns-in-Ok-Some-clause-fault g c triples agrees =
     let s = setting c.args.context.now in
     let m = c.args.layer.coins in
     let undo = c.in-Ok.ensures.pass.undo ∙ ap (undo_of s.height m) c.as_slice.ensures in
     let l = listed s m c.args.of.now.block.now _ c.in-Ok.undo (lawful_block c.args.of.now.block.now c.requires.alone) c.as_slice-in-Ok.ensures undo in
-    answered s m c.args.of.now.block.now _ _ c.in-Ok.undo triples _ _ (Some c.in-Some.reason) l c.at-rules.ensures c.as_slice.ensures c.in-Ok.ensures.pass.none
-    (c.in_ok-reason-in-Ok.ensures.answer triples agrees) c.in-Some.is
+    answered s m c.args.of.now.block.now _ _ c.in-Ok.undo triples _ _ (Some c.in-Ok-Some.reason) l c.at-rules.ensures c.as_slice.ensures c.in-Ok.ensures.pass.none
+    (ok_part _ _ _ c.in-Ok-Some.is c.first_refused.ensures.answer triples agrees) c.in-Ok-Some.field-0-is
 
-pub returns-in_default-clause-fault : goal.returns-in_default-clause-fault
-returns-in_default-clause-fault g c triples agrees =
+pub returns-in-Ok-None-clause-scripts : goal.returns-in-Ok-None-clause-scripts
+returns-in-Ok-None-clause-scripts g c triples agrees =
     let s = setting c.args.context.now in
     let m = c.args.layer.coins in
     let undo = c.in-Ok.ensures.pass.undo ∙ ap (undo_of s.height m) c.as_slice.ensures in
     let l = listed s m c.args.of.now.block.now _ c.in-Ok.undo (lawful_block c.args.of.now.block.now c.requires.alone) c.as_slice-in-Ok.ensures undo in
     answered s m c.args.of.now.block.now _ _ c.in-Ok.undo triples _ _ None l c.at-rules.ensures c.as_slice.ensures c.in-Ok.ensures.pass.none
-    (c.in_ok-reason-in-Ok.ensures.answer triples agrees) c.in_default.is
+    (ok_part _ _ _ c.in-Ok-None.is c.first_refused.ensures.answer triples agrees) c.in-Ok-None.field-0-is
 
-pub returns-in_err-reason-in-Ok-clause-stops : goal.returns-in_err-reason-in-Ok-clause-stops
-returns-in_err-reason-in-Ok-clause-stops g c =
+pub returns-clause-scripts : goal.returns-clause-scripts
+returns-clause-scripts g c =
     let s = setting c.args.context.now in
     let m = c.args.layer.coins in
     let undo = c.in-Ok.ensures.pass.undo ∙ ap (undo_of s.height m) c.as_slice.ensures in
     let l = listed s m c.args.of.now.block.now _ c.in-Ok.undo (lawful_block c.args.of.now.block.now c.requires.alone) c.as_slice-in-Ok.ensures undo in
-    let passed = err_from_is_err_and c.from_residual.result c.from_residual.ensures.1 in
     let known = g.S.RunsScripts.known c.args.env.now in
     let wants : (list : List Triple) → AreWantedAmong known (checks_from (flags_of c.at-rules.result) 1 (take (length c.as_slice-in-Ok.result.now - 1) (drop 1 c.as_slice-in-Ok.result.now)) c.in-Ok.undo) list → AreWantedByBlock s m c.args.of.now.block.now.txs known list = λ list wanted. record {
       passes = ap (λ (l : List Tx). first_broken (connect_rules s m l)) (sym c.as_slice.ensures) ∙ c.in-Ok.ensures.pass.none;
       scripts = subst (λ (k : List Check). AreWantedAmong known k list) (l.checks _ c.at-rules.ensures) wanted;
     } in
-    rw (passed.1, passed.2) (wanted_weaker _ _ wants _ c.in_err-reason-in-Ok.ensures.stops)
+    wanted_weaker _ _ wants _ (err_part _ _ _ c.in-Err.is c.first_refused.ensures.stops)

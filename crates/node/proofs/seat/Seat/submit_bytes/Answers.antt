@@ -1,5 +1,0 @@
-use Rattle.node.proofs.Owning.{own_begins}
-use Rattle.node.proofs.seat.Seat.submit_bytes.Goals as goal
-
-pub returns-in_err-command-clause-own : goal.returns-in_err-command-clause-own
-returns-in_err-command-clause-own g c = let s = c.self.inside in rw (← c.self.view_is) (own_begins s.token s.answered s.seen.entries s.owed.items)
