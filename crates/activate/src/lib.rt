@@ -22,4 +22,4 @@ mod try_flags;
 pub use active_branch::MOST_UNDO;
 pub use chainstate::Chainstate;
 pub use core_state::Core;
-pub use lookups::{ancestor_of, header_of, height_of};
+pub use lookups::{ancestor_of, fork_of, header_of, height_of};

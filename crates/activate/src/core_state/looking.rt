@@ -72,8 +72,9 @@ impl Core {
         fork_of(&self.tree, one, other)
     }
 
-    /// What the block with this id spent; none where it isn't active.
-    pub(crate) fn spent(&self, alloc: Global, id: &Id) -> Result<Option<BlockUndo>, Memory>
+    /// The coins that the block with this id spent, transaction by transaction from the second on (Bitcoin Core's undo
+    /// data); none where it isn't active.
+    pub fn spent(&self, alloc: Global, id: &Id) -> Result<Option<BlockUndo>, Memory>
         ensures { let t = self.now.state.blocks in IfOk result (λ found.
             found ≡ option_and_then (spent_at t self.now.active) (place_of names t id.now)) }
     {
