@@ -39,8 +39,11 @@ pub const ALL: u32 = 1;
 pub struct Midstates<'a> {
     pub tx: &'a Tx,
     states: Vec<Sha256>,
+    /// States that are kept with the transaction; `states` is empty then.
+    kept: &'a [Sha256],
     groups: Vec<Option<Group>>,
     ghost fed: { AreMidstates tx.now states.items } by { AreMidstates-prop tx.now states.items },
+    ghost lent: { AreMidstates tx.now kept.now } by { AreMidstates-prop tx.now kept.now },
     ghost found: { AreGroups tx.now groups.items } by { AreGroups-prop tx.now groups.items },
 }
 
@@ -62,7 +65,13 @@ impl<'a> Midstates<'a> {
         }
         let states = states_of(alloc, tx)?;
         let groups = groups(alloc, tx, place, spent)?;
-        Ok(Midstates { tx, states, groups })
+        let kept: &'a [Sha256] = &[];
+        Ok(Midstates {
+            tx,
+            states,
+            kept,
+            groups,
+        })
     }
 
     /// Those of each of some transactions, by their places, whose inputs spend these scripts. Where none has 32 inputs
@@ -88,9 +97,19 @@ impl<'a> Midstates<'a> {
     pub fn none(alloc: Global, tx: &'a Tx) -> Midstates<'a>
         ensures { result.tx.now ≡ tx.entry.now }
     {
+        let kept: &'a [Sha256] = &[];
+        Midstates::lent(alloc, tx, kept)
+    }
+
+    /// With states that are kept elsewhere.
+    pub(crate) fn lent(alloc: Global, tx: &'a Tx, kept: &'a [Sha256]) -> Midstates<'a>
+        requires { AreMidstates tx.now kept.now }
+        ensures { result.tx.now ≡ tx.entry.now }
+    {
         Midstates {
             tx,
             states: Vec::new(alloc),
+            kept,
             groups: Vec::new(alloc),
         }
     }
@@ -142,11 +161,21 @@ impl<'a> Midstates<'a> {
     {
         let steps = input / STEP;
         if steps > 0 {
-            if let Some(state) = self.states.get(steps - 1) {
+            if let Some(state) = self.states().get(steps - 1) {
                 return (state.clone().unwrap(), steps * STEP);
             }
         }
         (begun(self.tx), 0)
+    }
+
+    /// Its own states, or those that are kept.
+    fn states(&self) -> &[Sha256]
+        ensures { AreMidstates self.now.tx.now result.now }
+    {
+        if self.states.is_empty() {
+            return self.kept;
+        }
+        self.states.as_slice()
     }
 }
 
@@ -158,6 +187,16 @@ fn begun(tx: &Tx) -> Sha256
     hasher.update(tx.version.to_le_bytes());
     feed_count(&mut hasher, tx.inputs.len() as u128);
     hasher
+}
+
+/// The states of a transaction, where they are worth their memory: none of one with fewer than 32 inputs.
+pub(crate) fn states_worth_keeping(alloc: Global, tx: &Tx) -> Result<Vec<Sha256>, Memory>
+    ensures { IfOk result (λ states. AreMidstates tx.now states.items) }
+{
+    if tx.inputs.len() < FEWEST {
+        return Ok(Vec::new(alloc));
+    }
+    states_of(alloc, tx)
 }
 
 /// The states of a transaction: the first is before input 16.

@@ -1,0 +1,36 @@
+//! A transaction that is kept with its midstates.
+
+ghost use Rattle.std.specs.Prelude.{◌≡◌, IfOk};
+ghost use Rattle.sighash.specs.inside.Beginning.{AreMidstates, AreMidstates-prop};
+
+use crate::midstates::{Midstates, states_worth_keeping};
+use sha2::Sha256;
+use std::alloc::Global;
+use txn::Tx;
+use wire::Memory;
+
+/// A transaction that is kept for many calls, with the hasher's states at every 16th of its inputs. Digests that are found
+/// ahead rest on the scripts that are spent, and aren't kept.
+#[derive(Drop)]
+pub struct KeptTx {
+    pub tx: Tx,
+    states: Vec<Sha256>,
+    ghost fed: { AreMidstates tx states.items } by { AreMidstates-prop tx states.items },
+}
+
+impl KeptTx {
+    /// Hashes the inputs of a transaction once. Of one with fewer than 32 inputs no state is kept, and no memory taken.
+    pub fn of(alloc: Global, tx: Tx) -> Result<KeptTx, Memory>
+        ensures { IfOk result (λ kept. kept.tx ≡ tx) }
+    {
+        let states = states_worth_keeping(alloc, &tx)?;
+        Ok(KeptTx { tx, states })
+    }
+
+    /// The transaction's midstates. They take no memory.
+    pub fn midstates(&self, alloc: Global) -> Midstates<'_>
+        ensures { result.tx.now ≡ self.now.tx }
+    {
+        Midstates::lent(alloc, &self.tx, self.states.as_slice())
+    }
+}
