@@ -6,13 +6,13 @@ mod expected;
 mod feeding;
 mod flat;
 mod joined;
-mod kept_tx;
 mod kind;
 mod midstates;
+mod precomputed;
 mod signing;
 mod spent;
 
-pub use kept_tx::KeptTx;
 pub use midstates::Midstates;
+pub use precomputed::PrecomputedTx;
 pub use signing::digest;
 pub use spent::SpentScripts;

@@ -1,4 +1,4 @@
-//! A transaction that is kept with its midstates.
+//! A transaction with what the digests of its inputs share.
 
 ghost use Rattle.std.specs.Prelude.{◌≡◌, IfOk};
 ghost use Rattle.sighash.specs.inside.Beginning.{AreMidstates, AreMidstates-prop};
@@ -9,22 +9,22 @@ use std::alloc::Global;
 use txn::Tx;
 use wire::Memory;
 
-/// A transaction that is kept for many calls, with the hasher's states at every 16th of its inputs. Digests that are found
-/// ahead rest on the scripts that are spent, and aren't kept.
+/// A transaction for many calls, with the hasher's states at every 16th of its inputs (Bitcoin Core's
+/// `PrecomputedTransactionData`). Digests that are found ahead rest on the scripts that are spent, and aren't kept.
 #[derive(Drop)]
-pub struct KeptTx {
+pub struct PrecomputedTx {
     pub tx: Tx,
     states: Vec<Sha256>,
     ghost fed: { AreMidstates tx states.items } by { AreMidstates-prop tx states.items },
 }
 
-impl KeptTx {
+impl PrecomputedTx {
     /// Hashes the inputs of a transaction once. Of one with fewer than 32 inputs no state is kept, and no memory taken.
-    pub fn of(alloc: Global, tx: Tx) -> Result<KeptTx, Memory>
-        ensures { IfOk result (λ kept. kept.tx ≡ tx) }
+    pub fn of(alloc: Global, tx: Tx) -> Result<PrecomputedTx, Memory>
+        ensures { IfOk result (λ found. found.tx ≡ tx) }
     {
         let states = states_worth_keeping(alloc, &tx)?;
-        Ok(KeptTx { tx, states })
+        Ok(PrecomputedTx { tx, states })
     }
 
     /// The transaction's midstates. They take no memory.
