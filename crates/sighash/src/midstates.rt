@@ -101,7 +101,7 @@ impl<'a> Midstates<'a> {
         Midstates::lent(alloc, tx, kept)
     }
 
-    /// With states that are kept elsewhere.
+    /// With states that are kept elsewhere. No digest is found ahead.
     pub(crate) fn lent(alloc: Global, tx: &'a Tx, kept: &'a [Sha256]) -> Midstates<'a>
         requires { AreMidstates tx.now kept.now }
         ensures { result.tx.now ≡ tx.entry.now }
@@ -112,6 +112,29 @@ impl<'a> Midstates<'a> {
             kept,
             groups: Vec::new(alloc),
         }
+    }
+
+    /// The same, with the digests that are found ahead, where the inputs of the transaction at a place spend these scripts.
+    pub(crate) fn lent_ahead<S: SpentScripts>(
+        alloc: Global,
+        tx: &'a Tx,
+        place: usize,
+        kept: &'a [Sha256],
+        spent: &S,
+    ) -> Result<Midstates<'a>, Memory>
+        requires { AreMidstates tx.now kept.now }
+        ensures { IfOk result (λ midstates. midstates.tx.now ≡ tx.entry.now) }
+    {
+        if tx.inputs.len() < FEWEST {
+            return Ok(Midstates::lent(alloc, tx, kept));
+        }
+        let groups = groups(alloc, tx, place, spent)?;
+        Ok(Midstates {
+            tx,
+            states: Vec::new(alloc),
+            kept,
+            groups,
+        })
     }
 
     /// What [`digest`] gives for the transaction.

@@ -4,6 +4,7 @@ ghost use Rattle.std.specs.Prelude.{◌≡◌, IfOk};
 ghost use Rattle.sighash.specs.inside.Beginning.{AreMidstates, AreMidstates-prop};
 
 use crate::midstates::{Midstates, states_worth_keeping};
+use crate::spent::SpentScripts;
 use sha2::Sha256;
 use std::alloc::Global;
 use txn::Tx;
@@ -27,10 +28,21 @@ impl PrecomputedTx {
         Ok(PrecomputedTx { tx, states })
     }
 
-    /// The transaction's midstates. They take no memory.
+    /// The transaction's midstates. They take no memory, and find no digest ahead.
     pub fn midstates(&self, alloc: Global) -> Midstates<'_>
         ensures { result.tx.now ≡ self.now.tx }
     {
         Midstates::lent(alloc, &self.tx, self.states.as_slice())
+    }
+
+    /// The same for all of its inputs, which spend these scripts, as [`Midstates::of`] with place 0 finds them.
+    pub fn midstates_of_all<S: SpentScripts>(
+        &self,
+        alloc: Global,
+        spent: &S,
+    ) -> Result<Midstates<'_>, Memory>
+        ensures { IfOk result (λ midstates. midstates.tx.now ≡ self.now.tx) }
+    {
+        Midstates::lent_ahead(alloc, &self.tx, 0, self.states.as_slice(), spent)
     }
 }
