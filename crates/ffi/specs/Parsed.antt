@@ -1,6 +1,7 @@
 -- A transaction that is read once and asked many times.
 use Rattle.std.specs.Prelude.{◌≡◌, ◌≢◌, ℕ, ◌+◌, ◌<◌, ◌⊎◌, List, [], ◌∷◌, length, map, Option, None, Some, Ok, Err}
 use Rattle.std.specs.List.{flat_map}
+use Rattle.std.specs.Option.{option_map}
 use Rattle.curve.specs.Known.{Known, verdict_in}
 use Rattle.curve.specs.Lines.{lines}
 use Rattle.interp.specs.Answer.{Answer, Says, Wants}
@@ -8,6 +9,7 @@ use Rattle.interp.specs.Question.{question}
 use Rattle.interp.specs.computed.Named.{Named, verify_script}
 use Rattle.interp.specs.declared.flags.Flags.{Flags}
 use Rattle.interp.specs.declared.script_error.ScriptError.{ScriptError}
+use Rattle.sighash.specs.declared.precomputed.PrecomputedTx.{PrecomputedTx}
 use Rattle.txn.specs.declared.tx.Tx.{Tx}
 use Rattle.txn.specs.Grammar.{transaction}
 use Rattle.txn.specs.computed.Reading.{tx_at}
@@ -16,6 +18,10 @@ use Rattle.ffi.specs.declared.shown.AllTold.{AllTold}
 use Rattle.ffi.specs.Known.{Asked, asked_of}
 use Rattle.ffi.specs.Named.{IsAnswered, IsByTables, all_sizes, flags_in, number_of}
 use Rattle.ffi.specs.Refusals.{IsTold}
+
+-- the transaction that is kept, with what the digests of its inputs share
+abbrev pub tx_kept : Option PrecomputedTx → Option Tx
+tx_kept kept = option_map (λ (it : PrecomputedTx). it.tx) kept
 
 -- A slot that is full stays so. Into another one comes the transaction at the front of the bytes, and how many of them it
 -- takes is told; or their fault is told.

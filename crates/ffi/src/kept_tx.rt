@@ -3,15 +3,15 @@
 //! Only the three functions below that name the address are proved by hand.
 
 ghost use Rattle.std.specs.Prelude.{◌≡◌, Option, None, Some, IsSome};
-ghost use Rattle.txn.specs.declared.tx.Tx.{Tx as TxValue};
+ghost use Rattle.sighash.specs.declared.precomputed.PrecomputedTx.{PrecomputedTx as TxValue};
 ghost use Rattle.ffi.specs.Keeping.{kept_tx_owns};
 ghost use Rattle.ffi.specs.inside.Stored.{kept_tx_coded};
 
 use crate::unboxed::Unboxed;
+use sighash::PrecomputedTx;
 use std::alloc::Global;
 use std::marker::Model;
 use std::ptr::null_mut;
-use txn::Tx;
 
 /// What C keeps of a transaction, or of none.
 #[repr(C)]
@@ -36,21 +36,21 @@ impl KeptTx {
     }
 
     /// Of this transaction.
-    pub(crate) fn of(tx: Box<Tx>) -> KeptTx
+    pub(crate) fn of(tx: Box<PrecomputedTx>) -> KeptTx
         ensures { result.value ≡ Some tx.value }
     {
         KeptTx::of_unboxed(Unboxed::of(tx))
     }
 
     /// The transaction, where there is one.
-    pub(crate) fn into_box(self) -> Box<Tx>
+    pub(crate) fn into_box(self) -> Box<PrecomputedTx>
         requires { IsSome self.value }
         ensures { self.value ≡ Some result.value }
     {
         self.unboxed().boxed()
     }
 
-    fn of_unboxed(found: Unboxed<Tx, Global>) -> KeptTx
+    fn of_unboxed(found: Unboxed<PrecomputedTx, Global>) -> KeptTx
         ensures { result.value ≡ Some found.value }
     {
         let Unboxed { at, alloc } = found;
@@ -60,13 +60,13 @@ impl KeptTx {
         }
     }
 
-    fn unboxed(self) -> Unboxed<Tx, Global>
+    fn unboxed(self) -> Unboxed<PrecomputedTx, Global>
         requires { IsSome self.value }
         ensures { self.value ≡ Some result.value }
     {
         let KeptTx { at, alloc } = self;
         Unboxed {
-            at: at as *mut Tx,
+            at: at as *mut PrecomputedTx,
             alloc,
         }
     }

@@ -4,7 +4,7 @@ ghost use Rattle.std.specs.Prelude.{◌≡◌, ◌<◌, length};
 ghost use Rattle.curve.specs.Lines.{lines};
 ghost use Rattle.interp.specs.Answer.{Tells};
 ghost use Rattle.interp.specs.Question.{question};
-ghost use Rattle.interp.specs.computed.Named.{verify_script};
+ghost use Rattle.interp.specs.computed.Named.{Named, verify_script};
 ghost use Rattle.txn.specs.computed.Reading.{tx_at};
 ghost use Rattle.ffi.specs.Known.{asked_of};
 ghost use Rattle.ffi.specs.Named.{number_of, failure_number, has_bit, flags_in, IsAnswered, IsInputNamed, told_of};
@@ -51,42 +51,30 @@ pub extern "C" fn ffi_verify_script(
             }
             match known_of(alloc, valid, invalid, line) {
                 Err(code) => code,
-                Ok(known) => tell_failure(
-                    alloc,
-                    &tx,
-                    input as usize,
-                    spent,
-                    flags,
-                    &known,
-                    error,
-                    asked,
-                    count,
-                ),
+                Ok(known) => {
+                    let found = judge(alloc, &tx, input as usize, spent, flags, &known);
+                    tell_failure(alloc, found, error, asked, count)
+                }
             }
         }
     }
 }
 
-/// Why an input may not spend a script, by what is known of signatures.
-pub(crate) fn tell_failure<K: KnowsSignatures>(
+/// Tells what was found of an input: why it may not spend a script, or the triple that is asked for.
+pub(crate) fn tell_failure(
     alloc: Global,
-    tx: &Tx,
-    input: usize,
-    spent: &[u8],
-    flags: u32,
-    known: &K,
+    found: Result<Result<(), ScriptError>, Unverified>,
     error: &mut u32,
     asked: &mut [u8],
     count: &mut u64,
 ) -> u32
-    requires { input < length tx.now.inputs }
-    ensures { let before = asked_of asked.old count.old in
+    ensures { (answer : Named (Unit {0})) → Tells found answer
+        → let before = asked_of asked.old count.old in
         let after = asked_of asked.new count.new in
-        IsAnswered (verify_script (K.known known.now)
-        (question tx.now input spent.now (flags_in flags))) (λ named. (result ≡ 0)
-        × (error.new ≡ failure_number named)) (error.new ≡ error.old) before after result }
+        IsAnswered answer (λ named. (result ≡ 0) × (error.new ≡ failure_number named))
+        (error.new ≡ error.old) before after result }
 {
-    match judge(alloc, tx, input, spent, flags, known) {
+    match found {
         Ok(Ok(())) => {
             *error = 0;
             DONE

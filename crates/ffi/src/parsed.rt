@@ -11,7 +11,7 @@ ghost use Rattle.txn.specs.Grammar.{transaction};
 ghost use Rattle.txn.specs.computed.Reading.{tx_at};
 ghost use Rattle.ffi.specs.Answers.{close_number};
 ghost use Rattle.ffi.specs.Named.{IsInputNamed, flags_in, told_of};
-ghost use Rattle.ffi.specs.Parsed.{AreInputsNamed, IsOfKept, IsRead, IsReadWhole, IsRefusalAnswered, first_refused, told_all};
+ghost use Rattle.ffi.specs.Parsed.{AreInputsNamed, IsOfKept, IsRead, IsReadWhole, IsRefusalAnswered, first_refused, told_all, tx_kept};
 ghost use Rattle.ffi.specs.inside.Parts.{IsRefusal};
 
 use crate::answers::{CLOSED, DONE, EXTRA, FULL, MEMORY, MISMATCH, NO_INPUT};
@@ -21,17 +21,17 @@ use crate::named::{flags_in, number_of, tell_failure};
 use crate::shown::{AllQuestion, AllTold, InputQuestion, InputTold};
 use crate::transactions::front;
 use crate::tx_slot::{TxSlot, put_tx, take_tx};
-use curve::FoundTables;
+use curve::{FoundTables, KnowsSignatures};
 use interp::{Element, Job, ScriptError, Unverified, verify_script};
-use sighash::{Midstates, SpentScripts};
+use sighash::{Midstates, PrecomputedTx, SpentScripts};
 use std::alloc::Global;
-use txn::Tx;
 use wire::Cursor;
 
 /// Reads the transaction at the front of bytes into a slot; `used` is how many of them it takes.
 #[unsafe(no_mangle)]
 pub extern "C" fn ffi_tx_read(alloc: Global, slot: &mut TxSlot, bytes: &[u8], used: &mut u64) -> u32
-    ensures { IsRead bytes.now slot.old.kept.value slot.new.kept.value used.old used.new result }
+    ensures { IsRead bytes.now (tx_kept slot.old.kept.value) (tx_kept slot.new.kept.value) used.old
+        used.new result }
 {
     if slot.is_full() {
         return FULL;
@@ -50,7 +50,8 @@ pub extern "C" fn ffi_tx_read(alloc: Global, slot: &mut TxSlot, bytes: &[u8], us
 /// Reads the transaction that all the bytes spell into a slot.
 #[unsafe(no_mangle)]
 pub extern "C" fn ffi_tx_read_whole(alloc: Global, slot: &mut TxSlot, bytes: &[u8]) -> u32
-    ensures { IsReadWhole bytes.now slot.old.kept.value slot.new.kept.value result }
+    ensures { IsReadWhole bytes.now (tx_kept slot.old.kept.value) (tx_kept slot.new.kept.value)
+        result }
 {
     if slot.is_full() {
         return FULL;
@@ -69,19 +70,22 @@ pub extern "C" fn ffi_tx_read_whole(alloc: Global, slot: &mut TxSlot, bytes: &[u
 }
 
 /// The transaction at the front, or the number that says why there is none.
-fn boxed(alloc: Global, bytes: &mut Cursor) -> Result<Box<Tx>, u32>
-    ensures found { IfOk result (λ tx. tx_at bytes.old ≡ Ok (tx.value, bytes.new)) }
-    ensures size { IfOk result (λ tx.
-        length bytes.old ≡ length (transaction.spell tx.value) + length bytes.new) }
+fn boxed(alloc: Global, bytes: &mut Cursor) -> Result<Box<PrecomputedTx>, u32>
+    ensures found { IfOk result (λ kept. tx_at bytes.old ≡ Ok (kept.value.tx, bytes.new)) }
+    ensures size { IfOk result (λ kept.
+        length bytes.old ≡ length (transaction.spell kept.value.tx) + length bytes.new) }
     ensures refused { IfErr result (IsRefusal (tx_at bytes.old)) }
 {
     let tx = match front(alloc, bytes) {
         Err(code) => return Err(code),
         Ok(tx) => tx,
     };
-    match Box::new(alloc, tx) {
+    let Ok(kept) = PrecomputedTx::of(alloc, tx) else {
+        return Err(MEMORY);
+    };
+    match Box::new(alloc, kept) {
         Err(_) => Err(MEMORY),
-        Ok(tx) => Ok(tx),
+        Ok(kept) => Ok(kept),
     }
 }
 
@@ -112,7 +116,7 @@ pub extern "C" fn ffi_tx_verify_input(
     ensures stays { slot.new.kept.value ≡ slot.old.kept.value }
     ensures told { let before = told_of told.old.line told.old.error asked.old told.old.count in
         let after = told_of told.new.line told.new.error asked.new told.new.count in
-        IsOfKept slot.old.kept.value (λ tx. IsInputNamed tx question.now.input
+        IsOfKept (tx_kept slot.old.kept.value) (λ tx. IsInputNamed tx question.now.input
         question.now.spent.now question.now.flags (lines question.now.valid.now)
         (lines question.now.invalid.now) before after result) (after ≡ before) result }
 {
@@ -127,32 +131,26 @@ pub extern "C" fn ffi_tx_verify_input(
 /// Why an input may not spend a script, 0 where it may, by two tables.
 fn verify_input(
     alloc: Global,
-    tx: &Tx,
+    kept: &PrecomputedTx,
     question: &InputQuestion,
     told: &mut InputTold,
     asked: &mut [u8],
 ) -> u32
-    ensures { IsInputNamed tx.now question.now.input question.now.spent.now question.now.flags
+    ensures { IsInputNamed kept.now.tx question.now.input question.now.spent.now question.now.flags
         (lines question.now.valid.now) (lines question.now.invalid.now)
         (told_of told.old.line told.old.error asked.old told.old.count)
         (told_of told.new.line told.new.error asked.new told.new.count) result }
 {
-    if question.input >= tx.inputs.len() as u64 {
+    if question.input >= kept.tx.inputs.len() as u64 {
         return NO_INPUT;
     }
     match known_of(alloc, question.valid, question.invalid, &mut told.line) {
         Err(code) => code,
-        Ok(known) => tell_failure(
-            alloc,
-            tx,
-            question.input as usize,
-            question.spent,
-            question.flags,
-            &known,
-            &mut told.error,
-            asked,
-            &mut told.count,
-        ),
+        Ok(known) => {
+            let (input, spent, flags) = (question.input as usize, question.spent, question.flags);
+            let found = verify_kept(alloc, kept, input, spent, flags, &known);
+            tell_failure(alloc, found, &mut told.error, asked, &mut told.count)
+        }
     }
 }
 
@@ -169,8 +167,8 @@ pub extern "C" fn ffi_tx_verify(
     ensures stays { slot.new.kept.value ≡ slot.old.kept.value }
     ensures told { let before = told_all told.old asked.old in
         let after = told_all told.new asked.new in
-        IsOfKept slot.old.kept.value (λ tx. AreInputsNamed tx question.now before after result)
-        (after ≡ before) result }
+        IsOfKept (tx_kept slot.old.kept.value)
+        (λ tx. AreInputsNamed tx question.now before after result) (after ≡ before) result }
 {
     let Some(tx) = take_tx(alloc, slot) else {
         return CLOSED;
@@ -183,15 +181,15 @@ pub extern "C" fn ffi_tx_verify(
 /// The first input that may not spend its script, and why, by two tables.
 fn verify_all(
     alloc: Global,
-    tx: &Tx,
+    kept: &PrecomputedTx,
     all: &AllQuestion,
     told: &mut AllTold,
     asked: &mut [u8],
 ) -> u32
-    ensures { AreInputsNamed tx.now all.now (told_all told.old asked.old)
+    ensures { AreInputsNamed kept.now.tx all.now (told_all told.old asked.old)
         (told_all told.new asked.new) result }
 {
-    if all.sizes.len() != tx.inputs.len() {
+    if all.sizes.len() != kept.tx.inputs.len() {
         return MISMATCH;
     }
     let scripts = match all_elements(alloc, all.sizes, all.scripts) {
@@ -202,7 +200,7 @@ fn verify_all(
     match known_of(alloc, all.valid, all.invalid, &mut told.line) {
         Err(code) => code,
         Ok(known) => {
-            let found = first_refused(alloc, tx, scripts.as_slice(), all.flags, &known);
+            let found = first_refused(alloc, kept, scripts.as_slice(), all.flags, &known);
             tell_refused(alloc, found, told, asked)
         }
     }
@@ -254,16 +252,16 @@ impl SpentScripts for Spent<'_> {
 /// The first input that may not spend its script, and why.
 fn first_refused(
     alloc: Global,
-    tx: &Tx,
+    kept: &PrecomputedTx,
     scripts: &[Element],
     flags: u32,
     known: &FoundTables,
 ) -> Result<Option<(usize, ScriptError)>, Unverified>
-    requires { length scripts.now ≡ length tx.now.inputs }
-    ensures { Tells result (first_refused (verdict_in known.now) (flags_in flags) tx.now 0
+    requires { length scripts.now ≡ length kept.now.tx.inputs }
+    ensures { Tells result (first_refused (verdict_in known.now) (flags_in flags) kept.now.tx 0
         scripts.now) }
 {
-    let midstates = Midstates::of(alloc, tx, 0, &Spent { scripts })?;
+    let midstates = kept.midstates_of_all(alloc, &Spent { scripts })?;
     for place in 0..scripts.len() {
         let spent = scripts[place].as_slice();
         match verify_one(alloc, &midstates, place, spent, flags, known) {
@@ -275,17 +273,34 @@ fn first_refused(
     Ok(None)
 }
 
+/// Why an input of a kept transaction may not spend a script.
+pub(crate) fn verify_kept<K: KnowsSignatures>(
+    alloc: Global,
+    kept: &PrecomputedTx,
+    input: usize,
+    spent: &[u8],
+    flags: u32,
+    known: &K,
+) -> Result<Result<(), ScriptError>, Unverified>
+    requires { input < length kept.now.tx.inputs }
+    ensures { Tells result (verify_script (K.known known.now)
+        (question kept.now.tx input spent.now (flags_in flags))) }
+{
+    let midstates = kept.midstates(alloc);
+    verify_one(alloc, &midstates, input, spent, flags, known)
+}
+
 /// Why an input of the transaction of these midstates may not spend a script.
-fn verify_one<'a>(
+fn verify_one<'a, K: KnowsSignatures>(
     alloc: Global,
     midstates: &'a Midstates<'a>,
     input: usize,
     spent: &'a [u8],
     flags: u32,
-    known: &FoundTables,
+    known: &K,
 ) -> Result<Result<(), ScriptError>, Unverified>
     requires { input < length midstates.now.tx.now.inputs }
-    ensures { Tells result (verify_script (verdict_in known.now)
+    ensures { Tells result (verify_script (K.known known.now)
         (question midstates.now.tx.now input spent.now (flags_in flags))) }
 {
     let flags = flags_in(flags);

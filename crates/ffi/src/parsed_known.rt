@@ -2,16 +2,17 @@
 
 ghost use Rattle.std.specs.Prelude.{◌≡◌};
 ghost use Rattle.ffi.specs.Named.{IsInputKnown, told_of};
-ghost use Rattle.ffi.specs.Parsed.{IsOfKept};
+ghost use Rattle.ffi.specs.Parsed.{IsOfKept, tx_kept};
 
 use crate::answers::{CLOSED, NO_INPUT};
 use crate::named::tell_failure;
+use crate::parsed::verify_kept;
 use crate::shown::{InputTold, KnownQuestion};
 use crate::tx_slot::{TxSlot, put_tx, take_tx};
 use crate::utxo::Utxo;
 use crate::utxo_slot::{UtxoSlot, put_utxo, take_utxo};
+use sighash::PrecomputedTx;
 use std::alloc::Global;
-use txn::Tx;
 
 /// Why an input of the transaction in a slot may not spend a script, as `ffi_tx_verify_input` tells it by two tables. No table
 /// is read.
@@ -29,7 +30,7 @@ pub extern "C" fn ffi_tx_verify_input_known(
     ensures told { let q = question.now in
         let before = told_of told.old.line told.old.error asked.old told.old.count in
         let after = told_of told.new.line told.new.error asked.new told.new.count in
-        IsOfKept slot.old.kept.value (λ tx. IsOfKept set.old.kept.value (λ u.
+        IsOfKept (tx_kept slot.old.kept.value) (λ tx. IsOfKept set.old.kept.value (λ u.
         IsInputKnown tx q.input q.spent.now q.flags u.verdicts before after result)
         (after ≡ before) result) (after ≡ before) result }
 {
@@ -49,29 +50,21 @@ pub extern "C" fn ffi_tx_verify_input_known(
 /// Why an input may not spend a script, 0 where it may.
 fn verify_input_known(
     alloc: Global,
-    tx: &Tx,
+    kept: &PrecomputedTx,
     utxo: &Utxo,
     question: &KnownQuestion,
     told: &mut InputTold,
     asked: &mut [u8],
 ) -> u32
     ensures { let q = question.now in
-        IsInputKnown tx.now q.input q.spent.now q.flags utxo.now.verdicts
+        IsInputKnown kept.now.tx q.input q.spent.now q.flags utxo.now.verdicts
         (told_of told.old.line told.old.error asked.old told.old.count)
         (told_of told.new.line told.new.error asked.new told.new.count) result }
 {
-    if question.input >= tx.inputs.len() as u64 {
+    if question.input >= kept.tx.inputs.len() as u64 {
         return NO_INPUT;
     }
-    tell_failure(
-        alloc,
-        tx,
-        question.input as usize,
-        question.spent,
-        question.flags,
-        utxo.known(),
-        &mut told.error,
-        asked,
-        &mut told.count,
-    )
+    let (input, spent, flags) = (question.input as usize, question.spent, question.flags);
+    let found = verify_kept(alloc, kept, input, spent, flags, utxo.known());
+    tell_failure(alloc, found, &mut told.error, asked, &mut told.count)
 }

@@ -4,9 +4,9 @@ ghost use Rattle.std.specs.Prelude.{◌≡◌, MatchOption, None, Some, is_some}
 ghost use Rattle.std.proofs.Props.{props};
 
 use crate::kept_tx::KeptTx;
+use sighash::PrecomputedTx;
 use std::alloc::Global;
 use std::mem::replace;
-use txn::Tx;
 
 /// A place of C's that holds a transaction, or none. One of zero bytes holds none.
 #[repr(C)]
@@ -27,7 +27,7 @@ impl TxSlot {
 }
 
 /// Takes the transaction away, if there is one.
-pub(crate) fn take_tx(alloc: Global, slot: &mut TxSlot) -> Option<Box<Tx>>
+pub(crate) fn take_tx(alloc: Global, slot: &mut TxSlot) -> Option<Box<PrecomputedTx>>
     ensures value { MatchOption result (slot.old.kept.value ≡ None)
         (λ tx. slot.old.kept.value ≡ Some tx.value) }
     ensures away { slot.new.kept.value ≡ None }
@@ -44,7 +44,7 @@ pub(crate) fn take_tx(alloc: Global, slot: &mut TxSlot) -> Option<Box<Tx>>
 fn goes_to_any_thread<T: Send>(_value: &T) {}
 
 /// Puts a transaction there.
-pub(crate) fn put_tx(slot: &mut TxSlot, tx: Box<Tx>)
+pub(crate) fn put_tx(slot: &mut TxSlot, tx: Box<PrecomputedTx>)
     ensures { slot.new.kept.value ≡ Some tx.value }
 {
     goes_to_any_thread(&*tx);

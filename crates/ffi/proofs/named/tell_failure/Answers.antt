@@ -6,13 +6,13 @@ use Rattle.ffi.specs.Known.{IsLineTold, asked_of}
 use Rattle.ffi.proofs.named.tell_failure.Goals as goal
 
 pub returns-in-Err-Unknown : goal.returns-in-Err-Unknown
-returns-in-Err-Unknown g c =
+returns-in-Err-Unknown c answer tells =
     let before = asked_of c.args.asked.now c.args.count.now in
     let after = asked_of c.tell_line.new.asked c.tell_line.new.count in
     ⊎_elim
     (λ told. inr (inl (
       c.in-Err-Unknown.triple.value,
-      c.in-Err-Unknown.ensures _ (ap unknown_in c.in-Err-Unknown.field-0-is),
+      (rw c.in-Err-Unknown.is at tells) _ (ap unknown_in c.in-Err-Unknown.field-0-is),
       subst (λ (t : Triple). IsLineTold t before after c.tell_line.result) c.deref.ensures told,
       refl,
     )))

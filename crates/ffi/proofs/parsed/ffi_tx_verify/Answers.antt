@@ -1,6 +1,6 @@
 -- The transaction that was in the slot is the one that is asked.
 use Rattle.std.proofs.Common.{subst}
-use Rattle.txn.specs.declared.tx.Tx.{Tx}
+use Rattle.sighash.specs.declared.precomputed.PrecomputedTx.{PrecomputedTx}
 use Rattle.ffi.specs.Parsed.{AreInputsNamed, told_all}
 use Rattle.ffi.proofs.parsed.ffi_tx_verify.Goals as goal
 
@@ -9,5 +9,5 @@ returns-clause-told c =
     let before = told_all c.args.told.now c.args.asked.now in
     let after = told_all c.verify_all-code.new.told c.verify_all-code.new.asked in
     rw c.in-Some.ensures.value
-    (subst (λ (t : Tx). AreInputsNamed t c.args.question.now before after c.verify_all-code.result)
+    (subst (λ (t : PrecomputedTx). AreInputsNamed t.tx c.args.question.now before after c.verify_all-code.result)
     c.deref.ensures c.verify_all-code.ensures)

@@ -1,7 +1,7 @@
 -- The transaction that was in the slot is the one that is asked.
 use Rattle.std.proofs.Common.{subst}
 use Rattle.curve.specs.Lines.{lines}
-use Rattle.txn.specs.declared.tx.Tx.{Tx}
+use Rattle.sighash.specs.declared.precomputed.PrecomputedTx.{PrecomputedTx}
 use Rattle.ffi.specs.Named.{IsInputNamed, told_of}
 use Rattle.ffi.proofs.parsed.ffi_tx_verify_input.Goals as goal
 
@@ -12,5 +12,5 @@ returns-clause-told c =
     let told = c.verify_input-code.new.told in
     let after = told_of told.line told.error c.verify_input-code.new.asked told.count in
     rw c.in-Some.ensures.value
-    (subst (λ (t : Tx). IsInputNamed t q.input q.spent.now q.flags (lines q.valid.now) (lines q.invalid.now) before after c.verify_input-code.result)
+    (subst (λ (t : PrecomputedTx). IsInputNamed t.tx q.input q.spent.now q.flags (lines q.valid.now) (lines q.invalid.now) before after c.verify_input-code.result)
     c.deref.ensures c.verify_input-code.ensures)

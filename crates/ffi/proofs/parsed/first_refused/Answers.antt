@@ -21,7 +21,7 @@ pub returns-in-Err : goal.returns-in-Err
 returns-in-Err c t e =
     let known = verdict_in c.args.known.now in
     let flags = flags_in c.args.flags in
-    let tx = c.args.tx.now in
+    let tx = c.args.kept.now.tx in
     let scripts = c.args.scripts.now in
     let n = c.loop-place.place in
     let others = first_refused known flags tx (n + 1) (drop (n + 1) scripts) in
@@ -33,7 +33,7 @@ pub loop-place-preserved : goal.loop-place-preserved
 loop-place-preserved c =
     let known = verdict_in c.args.known.now in
     let flags = flags_in c.args.flags in
-    let tx = c.args.tx.now in
+    let tx = c.args.kept.now.tx in
     let scripts = c.args.scripts.now in
     let n = c.loop-place.place in
     let others = first_refused known flags tx (n + 1) (drop (n + 1) scripts) in

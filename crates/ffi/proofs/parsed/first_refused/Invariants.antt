@@ -6,5 +6,5 @@ use Rattle.ffi.specs.Parsed.{first_refused}
 use Rattle.ffi.proofs.parsed.first_refused.Given as goal
 
 abbrev pub invariant-loop-place : goal.invariant-loop-place
-invariant-loop-place l = first_refused (verdict_in l.known) (flags_in l.flags) l.tx 0 l.scripts
-    ≡ first_refused (verdict_in l.known) (flags_in l.flags) l.tx l.place (drop l.place l.scripts)
+invariant-loop-place l = first_refused (verdict_in l.known) (flags_in l.flags) l.kept.tx 0 l.scripts
+    ≡ first_refused (verdict_in l.known) (flags_in l.flags) l.kept.tx l.place (drop l.place l.scripts)

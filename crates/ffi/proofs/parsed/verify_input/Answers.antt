@@ -9,4 +9,4 @@ pub returns-in-Err : goal.returns-in-Err
 returns-in-Err c = inl (omega arith, inr (c.in-Err.ensures.refused, (refl, refl)))
 
 pub returns-in-Ok : goal.returns-in-Ok
-returns-in-Ok c = inl (omega arith, inl (c.in-Ok.known, c.in-Ok.ensures.found, c.in-Ok.ensures.kept, c.tell_failure.ensures))
+returns-in-Ok c = inl (omega arith, inl (c.in-Ok.known, c.in-Ok.ensures.found, c.in-Ok.ensures.kept, c.tell_failure.ensures _ c.verify_kept-found.ensures))
