@@ -565,7 +565,8 @@ typedef uint64_t wakotehu_tx;
 
 /* Reads a transaction and writes its handle. Where `used` is null, all the bytes have to be the transaction:
  * WAKOTEHU_EXTRA where some stand behind it (Bitcoin Core's TX_SIZE_MISMATCH). Else it is the one at the front, and `used`
- * becomes the number of its bytes. The bytes are copied. Each transaction has to be given back by wakotehu_tx_free. */
+ * becomes the number of its bytes. The bytes are copied. What the digests of its inputs share is hashed once, here (Bitcoin
+ * Core's PrecomputedTransactionData). Each transaction has to be given back by wakotehu_tx_free. */
 wakotehu_code wakotehu_tx_read(const uint8_t *bytes, size_t length, size_t *used, wakotehu_tx *tx);
 
 /* wakotehu_verify_script for an input of a transaction that was read. */
@@ -575,8 +576,8 @@ wakotehu_code wakotehu_tx_verify_input(wakotehu_tx tx, uint64_t input, const uin
                                        uint64_t *needed);
 
 /* The same of all inputs at once: the first that may not spend its script, and the number of its failure; `error` is
- * WAKOTEHU_SCRIPT_OK, and `input` 0, where each may. What the messages of its signatures have in common is hashed once for
- * all, so this costs less than a call for each. scripts: those that the inputs spend, one after the other, sizes[n] bytes
+ * WAKOTEHU_SCRIPT_OK, and `input` 0, where each may. Eight digests are hashed at once, and a table is read once for all, so
+ * this costs less than a call for each. scripts: those that the inputs spend, one after the other, sizes[n] bytes
  * each. WAKOTEHU_MISMATCH where there is no size for each input, or the bytes are more or fewer. Inputs behind one that is
  * refused, or that asks for a signature of which nothing is known, aren't looked at. */
 wakotehu_code wakotehu_tx_verify(wakotehu_tx tx, const uint8_t *scripts, size_t length, const uint64_t *sizes, size_t count,
