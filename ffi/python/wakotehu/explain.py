@@ -1,0 +1,173 @@
+"""Says which script of a block failed, and how: `python3 -m wakotehu.explain FOLDER LINE`, for a submission that is answered
+`blk-bad-inputs`, as `regchain audit --explain` names its line.
+
+The block's branch is connected to a set of coins of its own, so this asks neither the chainstate nor the definition.
+"""
+
+import argparse
+import os
+import sys
+from binascii import unhexlify
+from itertools import takewhile
+from typing import Dict, Iterator, List, NamedTuple, Optional, Sequence, Set
+
+from . import consensus
+from .chainstate import read_heights
+from .coinset import CoinSet, Fault
+from .consensus import ScriptError, Triple
+from .encoding import GENESIS, double_sha, read_block, read_header, write_transaction
+from .errors import Error, Wants
+from .history import LOG, steps_of
+
+#: Of so many blocks the median time past is the median.
+SPAN = 11
+
+
+class NotExplained(Error):
+    """There is no such line, or it isn't a submission of a block whose branch is there."""
+
+
+class Explained(NamedTuple):
+    """The first rule that a block breaks by itself or over the coins, in Bitcoin Core's word, "" where there is none; of
+    "blk-bad-inputs" the transaction, the input, and why its scripts fail."""
+
+    reason: str
+    transaction: int
+    input: int
+    error: Optional[ScriptError]
+
+    def __str__(self) -> str:
+        if self.error is None:
+            return self.reason or "no rule by itself or over the coins"
+        return f"{self.reason}: transaction {self.transaction}, input {self.input}: {self.error.name} ({self.error.text})"
+
+
+class SavedRun:
+    """What a folder has, that `--save` or `--datadir` named: the block of each line, the heights of soft forks, and the
+    signatures that are valid. `docs/PROGRAM.md` says what its files have."""
+
+    def __init__(self, folder: str) -> None:
+        self.folder = folder
+        self.valid = {Triple.of_line(it).line for it in self._lines("table.txt") if it.split() and not it.startswith(b"#")}
+        self.heights = read_heights([int(it) for it in (self._read("heights.txt") or b"1,1,1,1").decode("ascii").split(",")])
+        self.blocks = list(self._log() if os.path.exists(os.path.join(folder, LOG)) else self._journal())
+
+    def _read(self, name: str) -> bytes:
+        path = os.path.join(self.folder, name)
+        if not os.path.exists(path):
+            return b""
+        with open(path, "rb") as file:
+            return file.read()
+
+    def _lines(self, name: str) -> List[bytes]:
+        return self._read(name).splitlines()
+
+    def _log(self) -> Iterator[Optional[bytes]]:
+        for step in steps_of(os.path.join(self.folder, LOG)):
+            if step.command == "valid":
+                self.valid.add(Triple.of_line(step.rest).line)
+            yield unhexlify(step.rest) if step.command == "submit" else None
+
+    def _journal(self) -> Iterator[Optional[bytes]]:
+        records = consensus.records(self._read("blocks.blk"))
+        for line in self._lines("journal.txt"):
+            words = line.split()
+            yield next(records, None) if len(words) > 2 and words[2] == b"submit" else None
+
+
+def branch_of(block: bytes, known: Dict[bytes, bytes]) -> List[bytes]:
+    """The blocks from the one above genesis to this one."""
+    found = [block]
+    while True:
+        parent = read_header(found[-1][:80]).parent
+        if parent == GENESIS.id:
+            return found[::-1]
+        if parent not in known or len(found) > len(known):
+            raise NotExplained("the block's branch isn't there")
+        found.append(known[parent])
+
+
+def flags_at(height: int, heights: Sequence[int]) -> Set[str]:
+    """The rules for scripts that are in force in a block of this height."""
+    _, bip65, bip66, csv = heights
+    first = {"P2SH": 0, "CLTV": bip65, "DERSIG": bip66, "CSV": csv}
+    return {name for name, begins in first.items() if height >= begins}
+
+
+class Connecting:
+    """A branch that is connected to coins of its own, from genesis on."""
+
+    def __init__(self, run: SavedRun) -> None:
+        self.run, self.times, self.medians = run, [GENESIS.time], [GENESIS.time]
+        self.coins = CoinSet()
+
+    def connect(self, block: bytes) -> Optional[Fault]:
+        """The first rule that the next block breaks by itself or over the coins."""
+        while True:
+            try:
+                height = len(self.times)
+                fault = self.coins.connect(block, height, self.medians[-1], self.medians, self.run.heights)
+                break
+            except Wants as wants:
+                for triple in wants.triples:
+                    self.coins.learn(triple, triple.line in self.run.valid)
+        if fault is None:
+            self.times.append(read_header(block[:80]).time)
+            self.medians.append(consensus.median(self.times[-SPAN:]))
+        return fault
+
+    def failure(self, block: bytes, fault: Fault) -> Optional[ScriptError]:
+        """Why the scripts of the input fail that a fault names."""
+        txs = read_block(block).transactions
+        tx = txs[fault.transaction]
+        spends = tx.inputs[fault.input]
+        made = [it for it in txs[: fault.transaction] if it.id == spends.id]
+        coin = self.coins.coin(spends.id, spends.index)
+        spent = made[-1].outputs[spends.index].script if made else coin.script if coin else b""
+        flags = flags_at(len(self.times), self.run.heights)
+        with consensus.ParsedTransaction(write_transaction(tx)) as parsed:
+            found = self.coins.verify_input(parsed, fault.input, spent, flags)
+        return found if isinstance(found, ScriptError) else None
+
+
+def explain(folder: str, line: int) -> Explained:
+    """What the block breaks that a line, from 1, submits: by itself and over the coins of its own branch."""
+    run = SavedRun(folder)
+    if not 1 <= line <= len(run.blocks):
+        raise NotExplained(f"there is no line {line}")
+    block = run.blocks[line - 1]
+    if block is None:
+        raise NotExplained(f"line {line} is no submission")
+    known = {double_sha(it[:80]): it for it in run.blocks[: line - 1][::-1] if it is not None}
+    branch, connecting = branch_of(block, known), Connecting(run)
+    with connecting.coins:
+        below = list(takewhile(lambda it: connecting.connect(it) is None, branch[:-1]))
+        if len(below) < len(branch) - 1:
+            raise NotExplained("an earlier block of its branch breaks a rule")
+        fault = connecting.connect(block)
+        if fault is None:
+            return Explained("", 0, 0, None)
+        error = connecting.failure(block, fault) if fault.reason == "blk-bad-inputs" else None
+        return Explained(*fault, error)
+
+
+def main(words: Optional[List[str]] = None) -> int:
+    parser = argparse.ArgumentParser(
+        prog="python3 -m wakotehu.explain", allow_abbrev=False,
+        description="Says which rule the block of a line breaks by itself or over the coins of its branch, and of blk-bad-inputs"
+        " which script fails, and how.",
+        epilog="Status 1: there is no such line or block, or a file can't be read.",
+    )  # fmt: skip
+    parser.add_argument("folder", metavar="FOLDER", help="a folder that --save or --datadir named")
+    parser.add_argument("line", metavar="LINE", type=int, help="a line of its journal, from 1, that submits a block")
+    given = parser.parse_args(words)
+    try:
+        print(f"line {given.line}: {explain(given.folder, given.line)}")
+        return 0
+    except (Error, OSError, ValueError) as error:
+        print(f"python3 -m wakotehu.explain: {error}", file=sys.stderr)
+        return 1
+
+
+if __name__ == "__main__":
+    sys.exit(main())
