@@ -37,6 +37,8 @@ BY_NEED = "--by-need"
 STRAY = f"02{'ab' * 32} 3006020101020101 {'cd' * 32}"
 #: So many commands of a scenario with spends make the chain below these.
 CHAIN = 100
+#: What seat 1 is asked.
+BESIDE = ["told", "note", "journal", "wait", "getblock", "getblockheader", "getblockhash", "getancestor", "getfork", "coins"]
 TELLS = {-32001: "memory", -32002: "owed"}
 
 
@@ -74,6 +76,8 @@ def lines_of(regchain):
         ask("getblock", seat=1, id=blocks[name][0])
         ask("getblockheader", seat=1, id=blocks[name][0])
     ask("getblockhash", seat=1, height=1)
+    ask("getancestor", seat=1, id=blocks["q3"][0], height=1)
+    ask("getfork", seat=1, id=blocks["p2"][0], other=blocks["q3"][0])
     ask("coins", seat=1, most=5)
     ask("info")
     lines.append(b"no request\n")
@@ -281,7 +285,7 @@ class Sweep:
             told = answer["result"].get("answer")
             number = answer["id"]
             method = json.loads(self.lines[number])["method"] if isinstance(number, int) else ""
-            if method in ("told", "note", "journal", "wait", "getblock", "getblockheader", "getblockhash", "coins"):
+            if method in BESIDE:
                 continue  # seat 1 runs beside seat 0
             if method == "finish":
                 if folder and BY_NEED not in self.kind.more and answer["result"]["at"] != len(journal):

@@ -9,6 +9,7 @@ from running import ProgramTest
 from serving import GENESIS, Names, Served, request, play
 
 DEFINITIONS = "block b1 genesis\nblock p2 b1\nblock q2 b1\nblock q3 q2\nblock q4 q3\n"
+PARENTS = dict(line.split()[1:3] for line in DEFINITIONS.splitlines())
 NOW = 1_296_688_602
 SUBSIDY = 5_000_000_000
 
@@ -67,6 +68,44 @@ class Lookups(ProgramTest):
         self.heights(5, "b1", "p2")
         self.header("q3", 5, 3, -1)
 
+    def branch(self, name: str) -> list[str]:
+        """The ids of a block's branch, from genesis up."""
+        ids = []
+        while name != "genesis":
+            ids.append(self.names.ids[name])
+            name = PARENTS[name]
+        return [GENESIS, *ids[::-1]]
+
+    def branches(self, at: int, *names: str) -> None:
+        """Of each of these blocks the block at each height; of each two, the last that both branches have."""
+        for one in names:
+            mine = self.branch(one)
+            for height, id in enumerate(mine):
+                self.assertEqual(self.ask("getancestor", at, id=mine[-1], height=height), {"hash": id})
+            for height in (len(mine), 2**63, 2**64 - 1):
+                self.assertIsNone(self.ask("getancestor", at, id=mine[-1], height=height))
+            for other in names:
+                theirs = self.branch(other)
+                shared = [id for id in mine if id in theirs][-1]
+                self.assertEqual(self.ask("getfork", at, id=mine[-1], other=theirs[-1]), {"hash": shared})
+
+    def test_branches(self) -> None:
+        """Of all blocks that were brought, whichever branch is active; of others there is none."""
+        self.branches(0, "genesis")
+        for name in ("b1", "p2", "q2"):
+            self.submit(name)
+        self.served.ask("told", seat=1, **{"from": 0})
+        self.branches(3, "genesis", "b1", "p2", "q2")
+        for id in (self.names.ids["q3"], "00" * 32):
+            self.assertIsNone(self.ask("getancestor", 3, id=id, height=0))
+            self.assertIsNone(self.ask("getfork", 3, id=id, other=GENESIS))
+            self.assertIsNone(self.ask("getfork", 3, id=GENESIS, other=id))
+            self.assertIsNone(self.ask("getfork", 3, id=id, other=id))
+        self.submit("q3", 2)
+        self.served.ask("invalidate", seat=2, id=self.names.ids["q2"])
+        self.served.ask("told", seat=1, **{"from": 2})
+        self.branches(5, "genesis", "b1", "p2", "q2", "q3")
+
     def test_a_refused_block_is_none(self) -> None:
         """Bytes that were submitted and refused: they are in the history, and no block of it."""
         orphan = self.names.data["q2"]
@@ -75,6 +114,8 @@ class Lookups(ProgramTest):
         self.served.ask("told", seat=1, **{"from": 0})
         self.assertIsNone(self.ask("getblock", 1, id=self.names.ids["q2"]))
         self.assertIsNone(self.ask("getblockheader", 1, id=self.names.ids["q2"]))
+        self.assertIsNone(self.ask("getancestor", 1, id=self.names.ids["q2"], height=0))
+        self.assertIsNone(self.ask("getfork", 1, id=self.names.ids["q2"], other=GENESIS))
         self.submit("b1")
         self.submit("q2")
         self.served.ask("told", seat=1, **{"from": 0})

@@ -122,6 +122,8 @@ where
         Call::Block(id) => looking::block(rt, board, blank, &id, seat),
         Call::Header(id) => looking::header(rt, board, blank, &id, seat),
         Call::Hash(height) => looking::hash(rt, board, blank, height, seat),
+        Call::Ancestor(id, height) => looking::ancestor(rt, board, blank, &id, height, seat),
+        Call::Fork(id, other) => looking::fork(rt, board, blank, &id, &other, seat),
         Call::Coins(above, most) => looking::coins(alloc, blank, above.as_ref(), most, seat),
     }
 }

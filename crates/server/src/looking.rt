@@ -6,7 +6,7 @@ ghost use Rattle.std.specs.Option.{option_copied};
 ghost use Rattle.json.specs.Json.{object};
 ghost use Rattle.tree.specs.Branches.{height};
 ghost use Rattle.tree.specs.Limits.{max_blocks};
-ghost use Rattle.activate.specs.Lookups.{ancestor_of};
+ghost use Rattle.activate.specs.Lookups.{ancestor_of, fork_of};
 ghost use Rattle.serving.specs.Answers.{coin_members};
 ghost use Rattle.server.specs.inside.Listing.{coin_json};
 ghost use Rattle.server.specs.inside.Answering.{AreCoinsTold, IsDeep, IsLookTold, SpellsKept, TellsBlock, TellsHash, TellsHeader, TellsRead, coins_answer, confirmations_of};
@@ -14,7 +14,7 @@ ghost use Rattle.server.specs.inside.Answering.{AreCoinsTold, IsDeep, IsLookTold
 use crate::asking::refused;
 use crate::board::Board;
 use crate::turn::Blank;
-use activate::{ancestor_of, header_of};
+use activate::{ancestor_of, fork_of, header_of};
 use block::laws::genesis_is_its_parts;
 use block::{GENESIS, StoredBlock};
 use coins::Coin;
@@ -174,28 +174,72 @@ pub fn hash<J: Naming, R>(
 where
     R: AllocGlobal + Wait,
     ensures { IfOk result (λ line. IsLookTold seat.old seat.new
-        (λ t best. TellsHash t best height blank) blank line.items) }
+        (λ t best. TellsHash (ancestor_of t best height) blank) blank line.items) }
 {
     let mut blocks = board.blocks.lock(rt);
     match blocks.catch_up(rt.alloc(), seat) {
-        Ok(best) => hash_line(rt.alloc(), blank, &best, blocks.tree(), height),
+        Ok(Stamped { at, value }) => {
+            let found = ancestor_of(blocks.tree(), &value, height as usize);
+            hash_line(rt.alloc(), blank, at, found)
+        }
         Err(fault) => blank.refuse(refused(fault)),
     }
 }
 
-fn hash_line(
-    alloc: Global,
+/// The line of the block at a height of a block's branch.
+pub fn ancestor<J: Naming, R>(
+    rt: &R,
+    board: &Board<J>,
     blank: Blank,
-    best: &Stamped<Id>,
-    tree: &Tree,
+    id: &Id,
     height: u64,
+    seat: &mut Seat<'_, J>,
 ) -> Result<Vec<u8>, AllocError>
-    ensures { IfOk result (λ line.
-        TellsHash tree.now.blocks best.now.value height blank best.now.at line.items) }
+where
+    R: AllocGlobal + Wait,
+    ensures { IfOk result (λ line. IsLookTold seat.old seat.new
+        (λ t best. TellsHash (ancestor_of t id.now height) blank) blank line.items) }
 {
-    match ancestor_of(tree, &best.value, height as usize) {
-        Some(id) => blank.read(alloc, best.at, Answer::Best(id)),
-        None => blank.read(alloc, best.at, Answer::Absent),
+    let mut blocks = board.blocks.lock(rt);
+    match blocks.catch_up(rt.alloc(), seat) {
+        Ok(Stamped { at, .. }) => {
+            let found = ancestor_of(blocks.tree(), id, height as usize);
+            hash_line(rt.alloc(), blank, at, found)
+        }
+        Err(fault) => blank.refuse(refused(fault)),
+    }
+}
+
+/// The line of the last block that the branches of two share.
+pub fn fork<J: Naming, R>(
+    rt: &R,
+    board: &Board<J>,
+    blank: Blank,
+    id: &Id,
+    other: &Id,
+    seat: &mut Seat<'_, J>,
+) -> Result<Vec<u8>, AllocError>
+where
+    R: AllocGlobal + Wait,
+    ensures { IfOk result (λ line. IsLookTold seat.old seat.new
+        (λ t best. TellsHash (fork_of t id.now other.now) blank) blank line.items) }
+{
+    let mut blocks = board.blocks.lock(rt);
+    match blocks.catch_up(rt.alloc(), seat) {
+        Ok(Stamped { at, .. }) => {
+            let found = fork_of(blocks.tree(), id, other);
+            hash_line(rt.alloc(), blank, at, found)
+        }
+        Err(fault) => blank.refuse(refused(fault)),
+    }
+}
+
+fn hash_line(alloc: Global, blank: Blank, at: u64, found: Option<Id>) -> Result<Vec<u8>, AllocError>
+    ensures { IfOk result (λ line. TellsHash found blank at line.items) }
+{
+    match found {
+        Some(id) => blank.read(alloc, at, Answer::Best(id)),
+        None => blank.read(alloc, at, Answer::Absent),
     }
 }
 

@@ -57,6 +57,10 @@ pub enum Call {
     Header(Id),
     /// The block of the active branch at this height.
     Hash(u64),
+    /// The block at this height of the branch of a block.
+    Ancestor(Id, u64),
+    /// The last block that the branches of two blocks share.
+    Fork(Id, Id),
     /// The coins at the outpoints above one, or from the least on, at most so many.
     Coins(Option<OutPoint>, u64),
     /// To answer once the history has more steps than these.
@@ -183,6 +187,8 @@ fn call_of(
         Method::GetBlock => block(params),
         Method::GetBlockHeader => header(params),
         Method::GetBlockHash => hash(params),
+        Method::GetAncestor => ancestor(params),
+        Method::GetFork => fork(params),
         Method::Coins => coins(params),
         Method::Wait => wait(params),
         Method::Note => Ok(Call::Note),
@@ -267,6 +273,32 @@ fn hash(params: &Params<'_, '_>) -> Result<Call, Refusal>
     match params.number("height") {
         Ok(height) => Ok(Call::Hash(height)),
         Err(refusal) => Err(refusal),
+    }
+}
+
+fn ancestor(params: &Params<'_, '_>) -> Result<Call, Refusal>
+    ensures ok { (seats : ℕ) → IfOk result (λ call.
+        IsCall seats methods.GetAncestor (given params.now) call) }
+    ensures err { (seats : ℕ) → IfErr result (λ why.
+        IsNoCall seats methods.GetAncestor (given params.now) why) }
+{
+    match (params.id("id"), params.number("height")) {
+        (Ok(id), Ok(height)) => Ok(Call::Ancestor(id, height)),
+        (Err(refusal), _) => Err(refusal),
+        (_, Err(refusal)) => Err(refusal),
+    }
+}
+
+fn fork(params: &Params<'_, '_>) -> Result<Call, Refusal>
+    ensures ok { (seats : ℕ) → IfOk result (λ call.
+        IsCall seats methods.GetFork (given params.now) call) }
+    ensures err { (seats : ℕ) → IfErr result (λ why.
+        IsNoCall seats methods.GetFork (given params.now) why) }
+{
+    match (params.id("id"), params.id("other")) {
+        (Ok(id), Ok(other)) => Ok(Call::Fork(id, other)),
+        (Err(refusal), _) => Err(refusal),
+        (_, Err(refusal)) => Err(refusal),
     }
 }
 

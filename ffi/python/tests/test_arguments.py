@@ -219,7 +219,8 @@ SEAT = [
     ("try_mark", {"command": ("command", "precious"), "id": ID}),
     ("gettxout", {"txid": ID, "n": ("number32", 0)}), ("gettxouts", {"outpoints": ("outpoints", [(bytes(32), 0)])}),
     ("getbestblockhash", {}), ("getchaintips", {}), ("getblock", {"id": ID}), ("getblockheader", {"id": ID}),
-    ("getblockhash", {"height": ("number", 0)}),
+    ("getblockhash", {"height": ("number", 0)}), ("getancestor", {"id": ID, "height": ("number", 0)}),
+    ("getfork", {"one": ID, "other": ID}), ("moved", {"before": ID}),
     ("coins", {"above": ("optional outpoint", (bytes(32), 0)), "most": ("number", 1)}), ("wait", {"after": ("number", 0)}),
     ("journal", {"first": ("step", 1), "last": ("number", 9)}), ("note", {}), ("told", {"other": ("own", None)}),
 ]  # fmt: skip
@@ -352,7 +353,7 @@ INSIDE = {"addresses.base58", "addresses.data_of", "chainstate.reply_of"} | {
 } | {
     f"served.{name}" for name in (
         "Call", "Opening", "Wanted", "verdicts", "learning", "submission", "dry_run", "mark", "output", "outputs", "block_of", "header_of", "hash_at", "coins_above", "longer_than",
-        "entries", "told", "request", "checked", "outcome",
+        "ancestor_of", "fork_of", "moving", "entries", "told", "request", "checked", "outcome",
         "died", "read_answer",
     )
 }  # fmt: skip

@@ -257,6 +257,80 @@ class NodeTest(unittest.TestCase):
         self.assertEqual(reader.coins(most=1), Stamped(2, coins[:1]))
         self.assertEqual(reader.coins(coins[0][:2]), Stamped(2, coins[1:]))
 
+    def branch(self, id):
+        """The ids of a block's branch, from genesis up."""
+        return [GENESIS.id] if id == GENESIS.id else [*self.branch(self.parents[id]), id]
+
+    def tree(self):
+        """Branches of three and of four blocks above the first two."""
+        trunk = self.maker.chain(2)
+        left = self.maker.chain(3, block_id(trunk[1]), extra=b"l")
+        right = self.maker.chain(4, block_id(trunk[1]), extra=b"r")
+        self.parents = {block_id(block): block[4:36] for block in trunk + left + right}
+        return trunk, left, right
+
+    def test_where_branches_part(self):
+        """Of each block, the block at each height; of each two, the last that both branches have."""
+        node = self.node(seats=1)
+        seat = node.seat(0)
+        trunk, left, right = self.tree()
+        for block in trunk + left + right[:2]:
+            seat.submit(block, NOW)
+        absent = [block_id(right[2]), b"\1" * 32]
+        for one in [GENESIS.id, *map(block_id, trunk + left + right[:2])]:
+            mine = self.branch(one)
+            found = [seat.getancestor(one, height) for height in (*range(len(mine) + 1), 2**64 - 1)]
+            self.assertEqual(found, [Stamped(7, id) for id in (*mine, None, None)])
+            for other in [GENESIS.id, *map(block_id, trunk + left + right[:2])]:
+                shared = [id for id in mine if id in self.branch(other)][-1]
+                self.assertEqual(seat.getfork(one, other), Stamped(7, shared))
+            for other in absent:
+                self.assertEqual((seat.getfork(one, other), seat.getfork(other, one)), (Stamped(7, None), Stamped(7, None)))
+        for id in absent:
+            self.assertEqual(seat.getancestor(id, 0), Stamped(7, None))
+            with self.assertRaises(errors.NotFound) as caught:
+                seat.moved(id)
+            self.assertEqual(caught.exception.at, 7)
+
+    def test_what_moved(self):
+        """After each step, from each best block before it: what is left of that branch, and what is new of the best one's."""
+        node = self.node(seats=1)
+        seat = node.seat(0)
+        trunk, left, right = self.tree()
+        steps = [lambda block=block: seat.submit(block, NOW) for block in trunk + left + right]
+        steps += [lambda: seat.invalidate(block_id(right[1])), lambda: seat.invalidate(block_id(trunk[0]))]
+        steps += [lambda: seat.reconsider(block_id(left[2])), lambda: seat.reconsider(block_id(right[3]))]
+        bests = [GENESIS.id]
+        for at, step in enumerate(steps, 1):
+            step()
+            bests.append(seat.getbestblockhash().value)
+            for before in bests:
+                gone, come = self.branch(before), self.branch(bests[-1])
+                kept = [one for one, other in zip(gone, come) if one == other]
+                expected = (kept[-1], gone[: len(kept) - 1 : -1], come[len(kept) :])
+                self.assertEqual(seat.moved(before), Stamped(at, expected))
+        one, other = block_id(left[-1]), block_id(right[-1])
+        self.assertEqual(bests[5:], [one, one, one, one, other, one, GENESIS.id, one, other])
+
+    def test_what_moved_while_steps_are_taken(self):
+        """Each answer goes on where the one before ended: so together they make the list of the last active branch."""
+        node = self.node(seats=2)
+        trunk, left, right = self.tree()
+        writing = threading.Thread(target=lambda: [node.seat(0).submit(block, NOW) for block in trunk + left + right])
+        active, last = [GENESIS.id], 0
+        writing.start()
+        while active[-1] != block_id(right[-1]):
+            node.seat(1).told(node.seat(0))
+            moved = node.seat(1).moved(active[-1])
+            self.assertLessEqual(last, moved.at)
+            last = moved.at
+            for id in moved.value.disconnected:
+                self.assertEqual(active.pop(), id)
+            self.assertEqual(active[-1], moved.value.fork)
+            active += moved.value.connected
+            self.assertEqual(active, self.branch(active[-1]))
+        writing.join()
+
     def test_many_threads_at_each_seat(self):
         """Answers find who asked, and no stamp falls."""
         node = self.node(seats=3)
@@ -435,6 +509,13 @@ class AsyncNodeTest(unittest.IsolatedAsyncioTestCase):
             self.assertEqual(best, Stamped(8, block_id(blocks[4])))
             self.assertEqual(await second.getblock(best.value), Stamped(8, blocks[4]))
             self.assertEqual(await second.getblockheader(best.value), Stamped(8, (blocks[4][:80], 5, 1)))
+            ids = [block_id(block) for block in blocks]
+            self.assertEqual(await second.getancestor(best.value, 2), Stamped(8, ids[1]))
+            self.assertEqual(await second.getancestor(best.value, 6), Stamped(8, None))
+            self.assertEqual(await second.getfork(best.value, ids[2]), Stamped(8, ids[2]))
+            self.assertEqual(await second.moved(ids[2]), Stamped(8, (ids[2], [], ids[3:])))
+            with self.assertRaises(errors.NotFound):
+                await second.moved(bytes(32))
             self.assertEqual(len((await second.coins(most=3)).value), 3)
             self.assertEqual(await asyncio.gather(first.wait(8), second.precious(best.value)), [9, Stamped(9, "done")])
             many = await asyncio.gather(*(seat.getbestblockhash() for seat in node.seats * 200))

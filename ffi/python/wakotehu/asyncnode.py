@@ -10,11 +10,11 @@ from weakref import WeakSet, ref
 
 from . import arguments, errors
 from .arguments import Path
-from .chainstate import BlockHeader, Coin, Reply, Tip
+from .chainstate import BlockHeader, Coin, Moved, Reply, Tip
 from .served import (
     BEST, FINISH, INFO, KEPT, MOST, NOTE, SAVE, TIMEOUT, TIPS, UNDER_WAY, Call, Entry, Info, Opening,
-    Stamped, UnspentOutput, Wanted, block_of, checked, coins_above, died, dry_run, entries, hash_at, header_of, longer_than, mark,
-    outcome, output, outputs, read_answer, request, submission, told, verdicts,
+    Stamped, UnspentOutput, Wanted, ancestor_of, block_of, checked, coins_above, died, dry_run, entries, fork_of, hash_at,
+    header_of, longer_than, mark, moving, outcome, output, outputs, read_answer, request, submission, told, verdicts,
 )  # fmt: skip
 from .signatures import Verify
 
@@ -340,6 +340,28 @@ class AsyncSeat:
         """As `Seat.getblockhash`."""
         answered: Stamped[Optional[bytes]] = await self._ask(hash_at(height))
         return answered
+
+    async def getancestor(self, id: bytes, height: int) -> Stamped[Optional[bytes]]:
+        """As `Seat.getancestor`."""
+        answered: Stamped[Optional[bytes]] = await self._ask(ancestor_of(id, height))
+        return answered
+
+    async def getfork(self, one: bytes, other: bytes) -> Stamped[Optional[bytes]]:
+        """As `Seat.getfork`."""
+        answered: Stamped[Optional[bytes]] = await self._ask(fork_of(one, other))
+        return answered
+
+    async def moved(self, before: bytes) -> Stamped[Moved]:
+        """As `Seat.moved`."""
+        asking = moving(before)
+        answer: Any = None
+        while True:
+            try:
+                call = asking.send(answer)
+            except StopIteration as end:
+                moved: Stamped[Moved] = end.value
+                return moved
+            answer = await self._ask(call)
 
     async def coins(
         self, above: Optional[Tuple[bytes, int]] = None, most: int = 1000

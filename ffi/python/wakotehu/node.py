@@ -12,12 +12,12 @@ from weakref import ref
 from . import arguments
 from .arguments import Path
 from .asyncnode import AsyncNode, AsyncSeat
-from .chainstate import BlockHeader, Coin, Reply, Tip
+from .chainstate import BlockHeader, Coin, Moved, Reply, Tip
 from .pipe import Pipe
 from .served import (
     BEST, FINISH, INFO, NOTE, SAVE, TIMEOUT, TIPS, UNDER_WAY, Call, Entry, Info, Opening, Stamped,
-    UnspentOutput, Wanted, block_of, checked, coins_above, dry_run, entries, hash_at, header_of, learning, longer_than, mark, output, outputs,
-    program_path, submission, told, verdicts,
+    UnspentOutput, Wanted, ancestor_of, block_of, checked, coins_above, dry_run, entries, fork_of, hash_at, header_of,
+    learning, longer_than, mark, moving, output, outputs, program_path, submission, told, verdicts,
 )  # fmt: skip
 from .signatures import Verify
 
@@ -126,6 +126,35 @@ class Seat:
         """The id of the active branch's block at a height, or None above the best one."""
         answered: Stamped[Optional[bytes]] = self._ask(hash_at(height))
         return answered
+
+    def getancestor(self, id: bytes, height: int) -> Stamped[Optional[bytes]]:
+        """The id of the block at a height of a block's branch, on which it is itself. None above it, and where `getblock` has
+        none."""
+        answered: Stamped[Optional[bytes]] = self._ask(ancestor_of(id, height))
+        return answered
+
+    def getfork(self, one: bytes, other: bytes) -> Stamped[Optional[bytes]]:
+        """The id of the last block that the branches of two blocks share. None where `getblock` has one of them not."""
+        answered: Stamped[Optional[bytes]] = self._ask(fork_of(one, other))
+        return answered
+
+    def moved(self, before: bytes) -> Stamped[Moved]:
+        """What the steps did since this was the best block, as `Chainstate.moved`. One that `getblock` doesn't have raises
+        `NotFound`.
+
+        It is read from `getbestblockhash`, whose `at` it has, and from `getfork` and headers, of which none ever changes. So it
+        is one answer for the best block at `at`, also where steps are taken meanwhile. What they do is told by the next call,
+        from that best block: the last of `connected`, or `fork` where that is empty.
+        """
+        asking = moving(before)
+        answer: Any = None
+        while True:
+            try:
+                call = asking.send(answer)
+            except StopIteration as end:
+                moved: Stamped[Moved] = end.value
+                return moved
+            answer = self._ask(call)
 
     def coins(
         self, above: Optional[Tuple[bytes, int]] = None, most: int = 1000

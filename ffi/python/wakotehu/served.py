@@ -5,11 +5,13 @@ import os
 import re
 import shutil
 import tempfile
-from typing import IO, Any, Callable, Dict, Generic, List, NamedTuple, Optional, Sequence, Tuple, Type, TypeVar, Union
+from typing import (
+    IO, Any, Callable, Dict, Generator, Generic, List, NamedTuple, Optional, Sequence, Tuple, Type, TypeVar, Union,
+)  # fmt: skip
 
 from . import arguments, errors
 from .arguments import Path, id_of, number, octets
-from .chainstate import REGTEST, BlockHeader, Coin, Reply, Tip, mark_of, moment_of, read_heights, show
+from .chainstate import REGTEST, BlockHeader, Coin, Moved, Reply, Tip, mark_of, moment_of, read_heights, show
 from .processor import chosen
 from .signatures import Verify
 
@@ -235,6 +237,14 @@ def hash_at(height: int) -> Call:
     return Call("getblockhash", f',"height":{number(height, "height", 64)}', _read_hash)
 
 
+def ancestor_of(id: bytes, height: int) -> Call:
+    return Call("getancestor", f',"id":"{show(id_of(id))}","height":{number(height, "height", 64)}', _read_hash)
+
+
+def fork_of(one: bytes, other: bytes) -> Call:
+    return Call("getfork", f',"id":"{show(id_of(one, "one"))}","other":"{show(id_of(other, "other"))}"', _read_hash)
+
+
 def coins_above(above: Optional[Tuple[bytes, int]], most: int) -> Call:
     place = ""
     if above is not None:
@@ -286,6 +296,35 @@ NOTE = Call("note", "", _read_place)
 INFO = Call("info", "", _read_info)
 SAVE = Call("save", "", _read_place)
 FINISH = Call("finish", "", _read_place)
+
+
+#: Calls of a seat, one after the other: each is sent its answer, and what all of them say is returned.
+Asking = Generator[Call, Any, T]
+
+
+def moving(before: bytes) -> Asking[Stamped[Moved]]:
+    """What moved from an earlier best block to the best one, at whose place it is stamped."""
+    before = id_of(before, "before")
+    best: Stamped[bytes] = yield BEST
+    fork: Stamped[Optional[bytes]] = yield fork_of(before, best.value)
+    if fork.value is None:
+        error = errors.NotFound("not-found")
+        error.at = fork.at
+        raise error
+    disconnected = yield from _above(before, fork.value)
+    connected = yield from _above(best.value, fork.value)
+    return Stamped(best.at, Moved(fork.value, disconnected, connected[::-1]))
+
+
+def _above(id: bytes, fork: bytes) -> Asking[List[bytes]]:
+    """The ids from a block down to one of its branch, without that one."""
+    found = []
+    while id != fork:
+        found.append(id)
+        header: Stamped[Optional[BlockHeader]] = yield header_of(id)
+        assert header.value is not None, "a kept block's parent is kept"
+        id = header.value.parent
+    return found
 
 
 def request(id: int, call: Call, seat: Optional[int]) -> bytes:

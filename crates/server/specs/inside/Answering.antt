@@ -26,7 +26,7 @@ use Rattle.chain.specs.declared.command.Command.TheVariants as command
 use Rattle.chain.specs.declared.reply.MarkReply.{MarkReply}
 use Rattle.chain.specs.declared.reply.SubmitReply.{SubmitReply}
 use Rattle.chain.specs.declared.reply.Reply.TheVariants as reply
-use Rattle.activate.specs.Lookups.{ancestor_of, height_of}
+use Rattle.activate.specs.Lookups.{ancestor_of, fork_of, height_of}
 use Rattle.node.specs.declared.answer.Stamped.{Stamped}
 use Rattle.node.specs.declared.answer.UnspentOutput.{UnspentOutput}
 use Rattle.node.specs.declared.fault.Fault.{Fault}
@@ -234,9 +234,9 @@ TellsHeader t best id i at line = MatchOption (place_of names t id) (IsReadLine 
     (λ p. (deep : Option ℕ) × IsDeep t best id (height t p) deep
     × IsReadLine i at (header_answer (grammar.header.spell (block_at names t p).header) (height t p) (confirmations_of deep)) line)
 
--- the id of the block at a height of the best one's branch
-abbrev pub TellsHash : Blocks Block → Id → ℕ → RequestId → ℕ → List ℕ → Type 0
-TellsHash t best h i at line = MatchOption (ancestor_of t best h) (IsReadLine i at absent_answer line) (λ id. IsReadLine i at (best_answer id) line)
+-- the id of the block that was looked for, if there is one
+abbrev pub TellsHash : Option Id → RequestId → ℕ → List ℕ → Type 0
+TellsHash found i at line = MatchOption found (IsReadLine i at absent_answer line) (λ id. IsReadLine i at (best_answer id) line)
 
 -- at a moment during the call this was the best block, and the submissions that the seat had then seen had brought these blocks
 pub record IsLookedAt (p q : Pass) (t : Blocks Block) (at : ℕ) (best : Id) : Type 0 where
@@ -283,7 +283,9 @@ IsCallTold call.Tips p q i line =
     IsReadTold (λ at (tips : Vec Tip Global). IsRead p q (shown_tips p.origin) at tips.items) (IsReadFault p q) tips_answer i line
 IsCallTold (call.Block id) p q i line = IsLookTold p q (λ t best. TellsBlock t id i) i line
 IsCallTold (call.Header id) p q i line = IsLookTold p q (λ t best. TellsHeader t best id i) i line
-IsCallTold (call.Hash height) p q i line = IsLookTold p q (λ t best. TellsHash t best height i) i line
+IsCallTold (call.Hash height) p q i line = IsLookTold p q (λ t best. TellsHash (ancestor_of t best height) i) i line
+IsCallTold (call.Ancestor id height) p q i line = IsLookTold p q (λ t best. TellsHash (ancestor_of t id height) i) i line
+IsCallTold (call.Fork id other) p q i line = IsLookTold p q (λ t best. TellsHash (fork_of t id other) i) i line
 IsCallTold (call.Coins above most) p q i line = AreCoinsTold p q above most i line
 IsCallTold (call.Wait steps) p q i line = IsReadTold (IsRead p q (best_in p.origin)) (IsClosedFault p q) no_answer i line
 IsCallTold call.Note p q i line = IsPlaceTold p q i line

@@ -94,6 +94,26 @@ returns-in-GetBlockHash-clause-err c =
     subst (λ m. IfErr c.hash.result (λ why. IsNoCall c.args.seats m (given c.args.params.now) why))
     (sym c.in-GetBlockHash.is) (c.hash.ensures.err c.args.seats)
 
+pub returns-in-GetAncestor-clause-ok : goal.returns-in-GetAncestor-clause-ok
+returns-in-GetAncestor-clause-ok c =
+    subst (λ m. IfOk c.ancestor.result (λ call. IsCall c.args.seats m (given c.args.params.now) call))
+    (sym c.in-GetAncestor.is) (c.ancestor.ensures.ok c.args.seats)
+
+pub returns-in-GetAncestor-clause-err : goal.returns-in-GetAncestor-clause-err
+returns-in-GetAncestor-clause-err c =
+    subst (λ m. IfErr c.ancestor.result (λ why. IsNoCall c.args.seats m (given c.args.params.now) why))
+    (sym c.in-GetAncestor.is) (c.ancestor.ensures.err c.args.seats)
+
+pub returns-in-GetFork-clause-ok : goal.returns-in-GetFork-clause-ok
+returns-in-GetFork-clause-ok c =
+    subst (λ m. IfOk c.fork.result (λ call. IsCall c.args.seats m (given c.args.params.now) call))
+    (sym c.in-GetFork.is) (c.fork.ensures.ok c.args.seats)
+
+pub returns-in-GetFork-clause-err : goal.returns-in-GetFork-clause-err
+returns-in-GetFork-clause-err c =
+    subst (λ m. IfErr c.fork.result (λ why. IsNoCall c.args.seats m (given c.args.params.now) why))
+    (sym c.in-GetFork.is) (c.fork.ensures.err c.args.seats)
+
 pub returns-in-Coins-clause-ok : goal.returns-in-Coins-clause-ok
 returns-in-Coins-clause-ok c =
     subst (λ m. IfOk c.coins.result (λ call. IsCall c.args.seats m (given c.args.params.now) call))
