@@ -21,6 +21,8 @@ from .history import LOG, steps_of
 
 #: Of so many blocks the median time past is the median.
 SPAN = 11
+#: The replies to blocks that are kept.
+KEPT = ("accepted", "inconclusive")
 
 
 class NotExplained(Error):
@@ -42,15 +44,22 @@ class Explained(NamedTuple):
         return f"{self.reason}: transaction {self.transaction}, input {self.input}: {self.error.name} ({self.error.text})"
 
 
+class Submission(NamedTuple):
+    """A block, and whether its submission's reply says that it is kept."""
+
+    block: bytes
+    is_kept: bool
+
+
 class SavedRun:
-    """What a folder has, that `--save` or `--datadir` named: the block of each line, the heights of soft forks, and the
-    signatures that are valid. `docs/PROGRAM.md` says what its files have."""
+    """What a folder has, that `--save` or `--datadir` named: the submission of each line, if it is one, the heights of soft
+    forks, and the signatures that are valid. `docs/PROGRAM.md` says what its files have."""
 
     def __init__(self, folder: str) -> None:
         self.folder = folder
         self.valid = {Triple.of_line(it).line for it in self._lines("table.txt") if it.split() and not it.startswith(b"#")}
         self.heights = read_heights([int(it) for it in (self._read("heights.txt") or b"1,1,1,1").decode("ascii").split(",")])
-        self.blocks = list(self._log() if os.path.exists(os.path.join(folder, LOG)) else self._journal())
+        self.lines = list(self._log() if os.path.exists(os.path.join(folder, LOG)) else self._journal())
 
     def _read(self, name: str) -> bytes:
         path = os.path.join(self.folder, name)
@@ -62,17 +71,29 @@ class SavedRun:
     def _lines(self, name: str) -> List[bytes]:
         return self._read(name).splitlines()
 
-    def _log(self) -> Iterator[Optional[bytes]]:
+    def _log(self) -> Iterator[Optional[Submission]]:
         for step in steps_of(os.path.join(self.folder, LOG)):
             if step.command == "valid":
                 self.valid.add(Triple.of_line(step.rest).line)
-            yield unhexlify(step.rest) if step.command == "submit" else None
+            yield Submission(unhexlify(step.rest), step.reply in KEPT) if step.command == "submit" else None
 
-    def _journal(self) -> Iterator[Optional[bytes]]:
+    def _journal(self) -> Iterator[Optional[Submission]]:
         records = consensus.records(self._read("blocks.blk"))
         for line in self._lines("journal.txt"):
-            words = line.split()
-            yield next(records, None) if len(words) > 2 and words[2] == b"submit" else None
+            words = line.decode("ascii", "replace").split()
+            if len(words) < 3 or words[2] != "submit":
+                yield None
+                continue
+            yield Submission(next(records), words[-1] in KEPT)
+
+    def kept_before(self, line: int) -> Dict[bytes, bytes]:
+        """The blocks that lines before this one submitted, by id. Of several under one header it is the one that is kept."""
+        found: Dict[bytes, bytes] = {}
+        for it in self.lines[: line - 1]:
+            if it is not None:
+                id = double_sha(it.block[:80])
+                found[id] = it.block if it.is_kept else found.get(id, it.block)
+        return found
 
 
 def branch_of(block: bytes, known: Dict[bytes, bytes]) -> List[bytes]:
@@ -133,13 +154,13 @@ class Connecting:
 def explain(folder: str, line: int) -> Explained:
     """What the block breaks that a line, from 1, submits: by itself and over the coins of its own branch."""
     run = SavedRun(folder)
-    if not 1 <= line <= len(run.blocks):
+    if not 1 <= line <= len(run.lines):
         raise NotExplained(f"there is no line {line}")
-    block = run.blocks[line - 1]
-    if block is None:
+    asked = run.lines[line - 1]
+    if asked is None:
         raise NotExplained(f"line {line} is no submission")
-    known = {double_sha(it[:80]): it for it in run.blocks[: line - 1][::-1] if it is not None}
-    branch, connecting = branch_of(block, known), Connecting(run)
+    block = asked.block
+    branch, connecting = branch_of(block, run.kept_before(line)), Connecting(run)
     with connecting.coins:
         below = list(takewhile(lambda it: connecting.connect(it) is None, branch[:-1]))
         if len(below) < len(branch) - 1:
