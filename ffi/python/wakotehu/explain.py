@@ -84,7 +84,10 @@ class SavedRun:
             if len(words) < 3 or words[2] != "submit":
                 yield None
                 continue
-            yield Submission(next(records), words[-1] in KEPT)
+            block = next(records, None)
+            if block is None:
+                raise NotExplained("blocks.blk has fewer blocks than the journal")
+            yield Submission(block, words[-1] in KEPT)
 
     def kept_before(self, line: int) -> Dict[bytes, bytes]:
         """The blocks that lines before this one submitted, by id. Of several under one header it is the one that is kept."""
