@@ -9,10 +9,11 @@ use Rattle.json.specs.Tree.{items_tokens}
 use Rattle.json.specs.Written.{Written}
 use Rattle.curve.specs.Triple.{Triple}
 use Rattle.tree.specs.declared.tip.Tip.{Tip}
-use Rattle.serving.specs.Answers.{Adds, members, now_of, coin_items, line_items, tip_items, step_items}
+use Rattle.serving.specs.Answers.{Adds, members, now_of, coin_items, line_items, spent_items, tip_items, step_items}
 use Rattle.serving.specs.declared.answer.CoinAt.{CoinAt}
+use Rattle.serving.specs.declared.answer.SpentCoin.{SpentCoin}
 use Rattle.serving.specs.declared.answer.Step.{Step}
-use Rattle.serving.specs.inside.Front.{coin_tokens, line_tokens, tip_tokens, step_tokens}
+use Rattle.serving.specs.inside.Front.{coin_tokens, line_tokens, spent_tokens, tip_tokens, step_tokens}
 
 pub then : {E : Type 0} {u : Unit {0}} {r : Result (Unit {0}) E} {a b c : Written} {ts us : List Token}
     → Adds {E = E} (Ok u) a b ts → Adds r b c us → Adds r a c (ts ++ us)
@@ -51,6 +52,14 @@ all_coins (c ∷ cs) =
 
 pub coins_closed : (coins : List CoinAt) → flat_map coin_tokens coins ++ Token.end_array ∷ [] ≡ items_tokens (coin_items coins) ++ []
 coins_closed coins = all_coins coins ∙ sym (append-nil (items_tokens (coin_items coins)))
+
+all_spent : (coins : List SpentCoin) → flat_map spent_tokens coins ++ Token.end_array ∷ [] ≡ items_tokens (spent_items coins)
+all_spent [] = refl
+all_spent (c ∷ cs) =
+    append_assoc (spent_tokens c) (flat_map spent_tokens cs) (Token.end_array ∷ []) ∙ ap (λ rest. spent_tokens c ++ rest) (all_spent cs)
+
+pub spent_closed : (coins : List SpentCoin) → flat_map spent_tokens coins ++ Token.end_array ∷ [] ≡ items_tokens (spent_items coins) ++ []
+spent_closed coins = all_spent coins ∙ sym (append-nil (items_tokens (spent_items coins)))
 
 all_lines : (ts : List Triple) → flat_map line_tokens ts ++ Token.end_array ∷ [] ≡ items_tokens (line_items ts)
 all_lines [] = refl

@@ -19,6 +19,7 @@ use Rattle.serving.specs.declared.answer.CoinAt.{CoinAt}
 use Rattle.serving.specs.declared.answer.Header.{Header}
 use Rattle.serving.specs.declared.answer.Info.{Info}
 use Rattle.serving.specs.declared.answer.Output.{Output}
+use Rattle.serving.specs.declared.answer.SpentCoin.{SpentCoin}
 use Rattle.serving.specs.declared.answer.Stamped.{Stamped}
 use Rattle.serving.specs.declared.answer.Step.{Step}
 use Rattle.serving.specs.declared.refusal.Refusal.{Refusal}
@@ -112,6 +113,15 @@ abbrev pub coin_items : List CoinAt → Items
 coin_items [] = no_items
 coin_items (c ∷ cs) = item (object (coin_members c)) (coin_items cs)
 
+-- a coin that a block spent
+abbrev pub spent_members : SpentCoin → Members
+spent_members c = member (codes "value") (number (signed_decimal c.value)) (text (codes "script") (encode_lower c.script.now)
+    (count (codes "height") c.height (member (codes "coinbase") (boolean c.coinbase) no_members)))
+
+abbrev pub spent_items : List SpentCoin → Items
+spent_items [] = no_items
+spent_items (c ∷ cs) = item (object (spent_members c)) (spent_items cs)
+
 -- bytes as a word of a table's line: in hexadecimal, `-` for none
 abbrev pub word : List ℕ → List ℕ
 word [] = codes "-"
@@ -147,6 +157,7 @@ answer_members answer.Absent = member (codes "answer") null no_members
 answer_members (answer.Block bytes) = text (codes "answer") (encode_lower bytes.now) no_members
 answer_members (answer.Header h) = member (codes "answer") (object (header_members h)) no_members
 answer_members (answer.Coins coins) = member (codes "answer") (array (coin_items coins.now)) no_members
+answer_members (answer.Spent coins) = member (codes "answer") (array (spent_items coins.now)) no_members
 answer_members (answer.Wants triples) = wants_members triples.now
 answer_members (answer.Contradicted t) = contradicted_members t.now
 

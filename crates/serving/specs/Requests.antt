@@ -93,6 +93,7 @@ method_name method.GetBlockHeader = codes "getblockheader"
 method_name method.GetBlockHash = codes "getblockhash"
 method_name method.GetAncestor = codes "getancestor"
 method_name method.GetFork = codes "getfork"
+method_name method.GetSpent = codes "getspent"
 method_name method.Coins = codes "coins"
 method_name method.Wait = codes "wait"
 method_name method.Note = codes "note"
@@ -123,6 +124,7 @@ IsCall seats m params (call.Ancestor id height) = (m ≡ method.GetAncestor)
     × IsId (codes "id") params id × IsNumber (codes "height") params height
 IsCall seats m params (call.Fork id other) = (m ≡ method.GetFork)
     × IsId (codes "id") params id × IsId (codes "other") params other
+IsCall seats m params (call.Spent id) = (m ≡ method.GetSpent) × IsId (codes "id") params id
 IsCall seats m params (call.Coins above most) = (m ≡ method.Coins) × IsAbove params above × IsNumber (codes "most") params most
 IsCall seats m params (call.Wait steps) = (m ≡ method.Wait) × IsNumber (codes "after") params steps
 IsCall seats m params call.Note = m ≡ method.Note

@@ -6,8 +6,8 @@ ghost use Rattle.json.specs.Token.{key, string, boolean};
 ghost use Rattle.std.specs.List.{flat_map};
 ghost use Rattle.hex.specs.Hex.{encode_lower};
 ghost use Rattle.json.specs.Json.{no_members};
-ghost use Rattle.serving.specs.Answers.{Adds, answer_members, coin_members, header_members, tip_members, output_members, step_members, info_members, members, now_of, status_name, wants_members, contradicted_members};
-ghost use Rattle.serving.specs.inside.Front.{coin_tokens, line_tokens, tip_tokens, step_tokens};
+ghost use Rattle.serving.specs.Answers.{Adds, answer_members, coin_members, header_members, spent_members, tip_members, output_members, step_members, info_members, members, now_of, status_name, wants_members, contradicted_members};
+ghost use Rattle.serving.specs.inside.Front.{coin_tokens, line_tokens, spent_tokens, tip_tokens, step_tokens};
 
 use crate::object::Object;
 use crate::triple_line::triple_line;
@@ -40,6 +40,8 @@ pub enum Answer<'a> {
     Block(&'a [u8]),
     Header(Header<'a>),
     Coins(&'a [CoinAt<'a>]),
+    /// The coins that a block spent, in the order of its inputs.
+    Spent(&'a [SpentCoin<'a>]),
     /// No step was taken: of these signatures isn't known whether they are valid.
     Wants(&'a [KeptTriple]),
     /// Of this signature the other verdict is known. Those told before it stand, and none behind it was told.
@@ -70,6 +72,15 @@ pub struct Header<'a> {
 pub struct CoinAt<'a> {
     pub txid: Id,
     pub n: u32,
+    pub value: i64,
+    pub script: &'a [u8],
+    pub height: u32,
+    pub coinbase: bool,
+}
+
+/// A coin that a block spent, whose outpoint is in the block.
+#[derive(Clone, Copy)]
+pub struct SpentCoin<'a> {
     pub value: i64,
     pub script: &'a [u8],
     pub height: u32,
@@ -145,6 +156,11 @@ impl Object {
                 self.coins(alloc, coins)?;
                 self.end_list()
             }
+            Answer::Spent(coins) => {
+                self.begin_list("answer")?;
+                self.spent(alloc, coins)?;
+                self.end_list()
+            }
             Answer::Wants(triples) => self.wants(alloc, triples),
             Answer::Contradicted(triple) => self.contradicted(alloc, triple),
         }
@@ -203,6 +219,23 @@ impl Object {
         self.end()
     }
 
+    fn spent(&mut self, alloc: Global, coins: &[SpentCoin<'_>]) -> Result<(), AllocError>
+        ensures { Adds result self.old self.new (flat_map spent_tokens coins.now) }
+    {
+        for coin in coins {
+            self.whole_spent_coin(alloc, coin)?;
+        }
+        Ok(())
+    }
+
+    fn whole_spent_coin(&mut self, alloc: Global, coin: &SpentCoin<'_>) -> Result<(), AllocError>
+        ensures { Adds result self.old self.new (spent_tokens coin.now) }
+    {
+        self.item()?;
+        self.spent_coin(alloc, coin)?;
+        self.end()
+    }
+
     /// Signatures that aren't known.
     fn wants(&mut self, alloc: Global, triples: &[KeptTriple]) -> Result<(), AllocError>
         ensures { Adds result self.old self.new (members (wants_members triples.now)) }
@@ -244,6 +277,16 @@ impl Object {
     {
         self.id(alloc, "txid", coin.txid)?;
         self.number("n", u64::from(coin.n))?;
+        self.signed("value", coin.value)?;
+        self.bytes(alloc, "script", coin.script)?;
+        self.number("height", u64::from(coin.height))?;
+        self.flag("coinbase", coin.coinbase)
+    }
+
+    /// The members of a coin that was spent.
+    fn spent_coin(&mut self, alloc: Global, coin: &SpentCoin<'_>) -> Result<(), AllocError>
+        ensures { Adds result self.old self.new (members (spent_members coin.now)) }
+    {
         self.signed("value", coin.value)?;
         self.bytes(alloc, "script", coin.script)?;
         self.number("height", u64::from(coin.height))?;

@@ -12,7 +12,7 @@ mod request;
 mod request_id;
 mod triple_line;
 
-pub use answer::{Answer, CoinAt, Header, Info, Output, Stamped, Step, status_word};
+pub use answer::{Answer, CoinAt, Header, Info, Output, SpentCoin, Stamped, Step, status_word};
 pub use line::{answer_line, info_line, refusal_line};
 pub use method::Method;
 pub use numeral::Numeral;

@@ -61,6 +61,8 @@ pub enum Call {
     Ancestor(Id, u64),
     /// The last block that the branches of two blocks share.
     Fork(Id, Id),
+    /// The coins that a block of the active branch spent.
+    Spent(Id),
     /// The coins at the outpoints above one, or from the least on, at most so many.
     Coins(Option<OutPoint>, u64),
     /// To answer once the history has more steps than these.
@@ -189,6 +191,7 @@ fn call_of(
         Method::GetBlockHash => hash(params),
         Method::GetAncestor => ancestor(params),
         Method::GetFork => fork(params),
+        Method::GetSpent => spent(params),
         Method::Coins => coins(params),
         Method::Wait => wait(params),
         Method::Note => Ok(Call::Note),
@@ -299,6 +302,18 @@ fn fork(params: &Params<'_, '_>) -> Result<Call, Refusal>
         (Ok(id), Ok(other)) => Ok(Call::Fork(id, other)),
         (Err(refusal), _) => Err(refusal),
         (_, Err(refusal)) => Err(refusal),
+    }
+}
+
+fn spent(params: &Params<'_, '_>) -> Result<Call, Refusal>
+    ensures ok { (seats : ℕ) → IfOk result (λ call.
+        IsCall seats methods.GetSpent (given params.now) call) }
+    ensures err { (seats : ℕ) → IfErr result (λ why.
+        IsNoCall seats methods.GetSpent (given params.now) why) }
+{
+    match params.id("id") {
+        Ok(id) => Ok(Call::Spent(id)),
+        Err(refusal) => Err(refusal),
     }
 }
 

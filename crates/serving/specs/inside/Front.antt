@@ -6,8 +6,9 @@ use Rattle.json.specs.Json.{object}
 use Rattle.hash.specs.Id.{hex_of_id}
 use Rattle.curve.specs.Triple.{Triple}
 use Rattle.tree.specs.declared.tip.Tip.{Tip}
-use Rattle.serving.specs.Answers.{id_json, text, coin_members, tip_members, step_members, triple_line}
+use Rattle.serving.specs.Answers.{id_json, text, coin_members, spent_members, tip_members, step_members, triple_line}
 use Rattle.serving.specs.declared.answer.CoinAt.{CoinAt}
+use Rattle.serving.specs.declared.answer.SpentCoin.{SpentCoin}
 use Rattle.serving.specs.declared.answer.Step.{Step}
 use Rattle.serving.specs.declared.request_id.RequestId.{RequestId}
 
@@ -20,6 +21,9 @@ tip_tokens t = json_tokens (object (text (codes "hash") (hex_of_id t.id) (tip_me
 
 abbrev pub coin_tokens : CoinAt → List Token
 coin_tokens c = json_tokens (object (coin_members c))
+
+abbrev pub spent_tokens : SpentCoin → List Token
+spent_tokens c = json_tokens (object (spent_members c))
 
 abbrev pub line_tokens : Triple → List Token
 line_tokens t = string (triple_line t) ∷ []

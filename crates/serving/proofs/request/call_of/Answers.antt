@@ -114,6 +114,16 @@ returns-in-GetFork-clause-err c =
     subst (λ m. IfErr c.fork.result (λ why. IsNoCall c.args.seats m (given c.args.params.now) why))
     (sym c.in-GetFork.is) (c.fork.ensures.err c.args.seats)
 
+pub returns-in-GetSpent-clause-ok : goal.returns-in-GetSpent-clause-ok
+returns-in-GetSpent-clause-ok c =
+    subst (λ m. IfOk c.spent.result (λ call. IsCall c.args.seats m (given c.args.params.now) call))
+    (sym c.in-GetSpent.is) (c.spent.ensures.ok c.args.seats)
+
+pub returns-in-GetSpent-clause-err : goal.returns-in-GetSpent-clause-err
+returns-in-GetSpent-clause-err c =
+    subst (λ m. IfErr c.spent.result (λ why. IsNoCall c.args.seats m (given c.args.params.now) why))
+    (sym c.in-GetSpent.is) (c.spent.ensures.err c.args.seats)
+
 pub returns-in-Coins-clause-ok : goal.returns-in-Coins-clause-ok
 returns-in-Coins-clause-ok c =
     subst (λ m. IfOk c.coins.result (λ call. IsCall c.args.seats m (given c.args.params.now) call))
