@@ -73,7 +73,7 @@ pub fn ancestor_of(tree: &Tree, id: &Id, height: usize) -> Option<Id>
 }
 
 /// The id of the last block that the branches of two blocks share.
-pub(crate) fn fork_of(tree: &Tree, one: &Id, other: &Id) -> Option<Id>
+pub fn fork_of(tree: &Tree, one: &Id, other: &Id) -> Option<Id>
     ensures { result ≡ fork_of tree.now.blocks one.now other.now }
 {
     let left = place_of(tree, one)?;
