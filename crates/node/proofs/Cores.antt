@@ -31,7 +31,7 @@ use Rattle.view.specs.Origin.{Origin, known_in}
 use Rattle.view.specs.ViewState.{ViewState, IsExact, IsInfo, IsLegal, coins_after, opening_view, state_after}
 use Rattle.view.specs.declared.chain_info.ChainInfo.{ChainInfo}
 use Rattle.view.specs.laws.Exact.{opening_exact}
-use Rattle.node.specs.Told.{spent_in}
+use Rattle.node.specs.Told.{undo_in}
 use Rattle.node.specs.inside.Brought.{IsInfoOfCore}
 use Rattle.node.specs.inside.Keeping.{IsReplyTo, IsUndecodable, is_step}
 use Rattle.node.specs.inside.PublishedState.{IsCoreOf, IsCoreStep, with_its_coins, entry_with_reply}
@@ -74,7 +74,7 @@ height_told o core journal x k told =
 
 -- what a block spent by the core is what it spent after the history
 pub spent_after : (o : Origin) (core : CoreState) (es : List Entry) (id : Id) (found : Option (List (List Coin))) → IsCoreOf o core es
-    → found ≡ option_and_then (spent_at core.state.blocks core.active) (place_of names core.state.blocks id) → Under (known_in o es) (λ valid. found ≡ spent_in o id valid (state_after o valid es))
+    → found ≡ option_and_then (spent_at core.state.blocks core.active) (place_of names core.state.blocks id) → Under (known_in o es) (λ valid. found ≡ undo_in o id valid (state_after o valid es))
 spent_after o core es id found k told = λ valid agrees.
     let t = k.theirs valid agrees in
     told

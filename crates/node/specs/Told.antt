@@ -44,8 +44,8 @@ abbrev pub best_in : (o : Origin) → (valid : Triples) → (machine o valid).St
 best_in o valid s = (machine o valid).best s
 
 -- the coins that an active block spent, by transactions from the second on (Bitcoin Core's undo data)
-abbrev pub spent_in : (o : Origin) → Id → (valid : Triples) → (machine o valid).State → Option (List (List Coin))
-spent_in o id valid s = spent_by (regtest o.params valid) s id
+abbrev pub undo_in : (o : Origin) → Id → (valid : Triples) → (machine o valid).State → Option (List (List Coin))
+undo_in o id valid s = spent_by (regtest o.params valid) s id
 
 -- the reply that a command would get
 abbrev pub reply_to : (o : Origin) → Command → (valid : Triples) → (machine o valid).State → Reply

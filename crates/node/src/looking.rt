@@ -2,7 +2,7 @@
 
 ghost use Rattle.std.specs.Prelude.{◌≡◌, IfOk, IfErr};
 ghost use Rattle.node.specs.Calls.{IsReadFault};
-ghost use Rattle.node.specs.Told.{spent_in};
+ghost use Rattle.node.specs.Told.{undo_in};
 
 use crate::answer::Stamped;
 use crate::fault::Fault;
@@ -28,7 +28,7 @@ impl<'t, J: Naming> Seat<'t, J> {
         id: &Id,
     ) -> Result<Stamped<Option<BlockUndo>>, Fault>
         ensures later { IsLater self.old self.new }
-        ensures answer { let coins = spent_in self.old.origin id.now in
+        ensures answer { let coins = undo_in self.old.origin id.now in
             IfOk result (λ r. IsRead self.old self.new coins r.at r.value) }
         ensures own { IsOwn self.new }
         ensures fault { IfErr result (λ fault. IsReadFault self.old self.new fault) }
@@ -46,7 +46,7 @@ impl<'t, J: Naming> Seat<'t, J> {
         id: &Id,
     ) -> Result<Stamped<Option<BlockUndo>>, Fault>
         ensures later { IsLater self.old self.new }
-        ensures answer { let coins = spent_in self.old.origin id.now in
+        ensures answer { let coins = undo_in self.old.origin id.now in
             IfOk result (λ r. IsRead self.old self.new coins r.at r.value) }
         ensures own { IsOwn self.new }
         ensures fault { IfErr result (λ fault. IsReadFault self.old self.new fault) }

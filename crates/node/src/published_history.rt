@@ -13,7 +13,7 @@ ghost use Rattle.view.specs.Beginning.{count_of};
 ghost use Rattle.view.specs.Origin.{known_in};
 ghost use Rattle.view.specs.ViewState.{IsLegal, state_after};
 ghost use Rattle.node.specs.Pass.{owed_entry};
-ghost use Rattle.node.specs.Told.{spent_in};
+ghost use Rattle.node.specs.Told.{undo_in};
 ghost use Rattle.node.specs.inside.LastPlaces.{AreLastPlaces};
 ghost use Rattle.node.specs.inside.PublishedState.{IsLockedAt, IsReady, IsReplyAfter, IsStepAnswer, Shows, opening_state, entry_with_reply};
 ghost use Rattle.node.specs.inside.Refused.{IsWantAfter};
@@ -341,7 +341,7 @@ impl<J: Naming> PublishedHistory<J> {
     pub(crate) fn spent(&self, id: &Id) -> Result<Option<BlockUndo>, Memory>
         ensures { let o = J.origin in let es = self.now.journal in
             IfOk result (λ found. Under (known_in o es) (λ valid.
-            found ≡ spent_in o id.now valid (state_after o valid es))) }
+            found ≡ undo_in o id.now valid (state_after o valid es))) }
     {
         self.chain.core.spent(self.alloc, id)
     }
