@@ -65,8 +65,10 @@ def pieces_of(lines: List[str], spec: Spec, shown: "Set[str]") -> Iterator[Piece
     at = 0
     for place, (head, name) in enumerate(heads):
         between = lines[at:begins[place]]
-        if any(re.match(r"\s*-- ----", line) for line in between):
-            title = "\n".join(between).strip("\n").split("\n") + [""]
+        titles = [number for number, line in enumerate(between) if re.match(r"\s*-- ----", line)]
+        if titles:
+            kept = [line for line in between[titles[0]:] if not re.match(r"\s*module _ ", line)]
+            title = "\n".join(kept).strip("\n").split("\n") + [""]
         at = head + 1
         while at < begins[place + 1] and lines[at].strip():
             at += 1

@@ -1,15 +1,19 @@
 -- The core after a history, and what it tells.
 use Rattle.std.proofs.Common.{◌≡◌, ℕ, ◌<◌, true, List, [], ◌∷◌, ◌++◌, map, Option, Some, None, refl, sym, ap, subst, ◌∙◌}
 use Rattle.std.specs.FinMap as coin_map
+use Rattle.std.specs.Option.{option_and_then}
+use Rattle.hash.specs.declared.id.Id.{Id}
 use Rattle.block.specs.declared.block.Block.{Block}
 use Rattle.curve.specs.Known.{Agrees, Under}
 use Rattle.curve.specs.Triple.{Triples}
 use Rattle.rules.specs.declared.params.Params.{Params}
-use Rattle.tree.specs.Branches.{height}
+use Rattle.tree.specs.Branches.{height, place_of}
 use Rattle.tree.specs.Limits.{max_blocks}
+use Rattle.tree.specs.Names.{names}
 use Rattle.tree.specs.State.{State}
 use Rattle.tree.specs.Tips.{tip_of_id}
 use Rattle.coins.specs.Coins.{Coins}
+use Rattle.coins.specs.declared.coin.Coin.{Coin}
 use Rattle.coins.specs.Changes.{Changes, AreChanges}
 use Rattle.chain.specs.declared.command.Command.{Command}
 use Rattle.chain.specs.declared.reply.Reply.{Reply}
@@ -22,10 +26,12 @@ use Rattle.chain.specs.Replay.{coins}
 use Rattle.chain.specs.Settle.{active, best, tips}
 use Rattle.activate.specs.CoreState.{CoreState, Follows, opened_core}
 use Rattle.activate.specs.CoreState as core_state
+use Rattle.activate.specs.Lookups.{spent_at, spent_by}
 use Rattle.view.specs.Origin.{Origin, known_in}
-use Rattle.view.specs.ViewState.{ViewState, IsExact, IsInfo, IsLegal, coins_after, opening_view}
+use Rattle.view.specs.ViewState.{ViewState, IsExact, IsInfo, IsLegal, coins_after, opening_view, state_after}
 use Rattle.view.specs.declared.chain_info.ChainInfo.{ChainInfo}
 use Rattle.view.specs.laws.Exact.{opening_exact}
+use Rattle.node.specs.Told.{undo_in}
 use Rattle.node.specs.inside.Brought.{IsInfoOfCore}
 use Rattle.node.specs.inside.Keeping.{IsReplyTo, IsUndecodable, is_step}
 use Rattle.node.specs.inside.PublishedState.{IsCoreOf, IsCoreStep, with_its_coins, entry_with_reply}
@@ -65,6 +71,16 @@ height_told o core journal x k told =
     let some = one_agrees o.table (found_in journal) in
     let follows = (k.theirs some.0 some.1).is_chainstate.follows in
     subst (λ (n : ℕ). n < max_blocks) (sym (told some.0 follows).height_is) (height-few (regtest core.params some.0) core.state k.few follows.sound)
+
+-- what a block spent by the core is what it spent after the history
+pub spent_after : (o : Origin) (core : CoreState) (es : List Entry) (id : Id) (found : Option (List (List Coin))) → IsCoreOf o core es
+    → found ≡ option_and_then (spent_at core.state.blocks core.active) (place_of names core.state.blocks id) → Under (known_in o es) (λ valid. found ≡ undo_in o id valid (state_after o valid es))
+spent_after o core es id found k told = λ valid agrees.
+    let t = k.theirs valid agrees in
+    told
+    ∙ ap (λ (a : ℕ). option_and_then (spent_at core.state.blocks a) (place_of names core.state.blocks id)) t.is_chainstate.follows.active_is
+    ∙ ap (λ (p : Params). spent_by (regtest p valid) core.state id) k.params_are
+    ∙ ap (λ (s : State Block). spent_by (regtest o.params valid) s id) t.state_is
 
 -- an entry with another reply that it may have
 pub with_reply : (o : Origin) (core : CoreState) (xs : List Entry) (e : Entry) (r : Option Reply) → IsLegal o (xs ++ entry_with_reply e r ∷ []) → IsCoreOf o core (xs ++ e ∷ []) → IsCoreOf o core (xs ++ entry_with_reply e r ∷ [])

@@ -1,7 +1,6 @@
 -- What a dry run answers.
-use Rattle.std.proofs.Common.{◌≡◌, ℕ, List, Result, Ok, Err, IfOk, IfErr, length, inl, inr, ap, sym, ◌∙◌, subst, arith, take_all}
+use Rattle.std.proofs.Common.{◌≡◌, List, Result, Ok, Err, IfOk, IfErr, inl, inr, ap, sym, ◌∙◌, subst}
 use Rattle.block.specs.declared.block.Block.{Block}
-use Rattle.curve.specs.Known.{Agrees}
 use Rattle.rules.specs.declared.params.Params.{Params}
 use Rattle.tree.specs.State.{State}
 use Rattle.chain.specs.Commands.{outcome}
@@ -16,11 +15,9 @@ use Rattle.chain.specs.Submission.{Outcome}
 use Rattle.chain.specs.laws.Learnt.{one_agrees}
 use Rattle.chain.specs.Regtest.{regtest}
 use Rattle.activate.specs.CoreState.{CoreState}
-use Rattle.view.specs.Origin.{Origin, known_in}
+use Rattle.view.specs.Origin.{Origin}
 use Rattle.view.specs.ViewState.{state_after}
 use Rattle.node.specs.declared.published_history.knowledge.Knowledge.{Knowledge}
-use Rattle.node.specs.Pass.{IsRead, Pass}
-use Rattle.node.specs.Told.{reply_to}
 use Rattle.node.specs.inside.Keeping.{IsReplyTo}
 use Rattle.node.specs.inside.Knowledge.{IsKnowledge, known_of}
 use Rattle.node.specs.inside.PublishedState.{IsCoreOf, IsCoreReply, IsReplyAfter}
@@ -58,14 +55,3 @@ never_marked o es (command.Invalidate id) value h said = absurd h
 never_marked o es (command.Reconsider id) value h said = absurd h
 never_marked o es (command.Precious id) value h said = absurd h
 never_marked o es (command.Learn t valid) value h said = absurd h
-
--- a reply after all that the seat has then seen is what it reads there
-pub read_after : (p q : Pass) (c : Command) (at : ℕ) (o : Origin) (es : List Entry) (r : Reply) → o ≡ p.origin → es ≡ q.seen → at ≡ length q.seen → q.mine ≡ p.mine → IsReplyAfter o es c r → IsRead p q (reply_to p.origin c) at r
-read_after p q c at o es r origin seen at_is mine said = record {
-  at_is = at_is;
-  value_is = λ valid agrees.
-      said valid (subst (λ (x : Origin). Agrees (known_in x es) valid) (sym origin) (subst (λ (l : List Entry). Agrees (known_in p.origin l) valid) (sym seen) agrees))
-      ∙ (λ i. reply_to (origin i) c valid (state_after (origin i) valid (seen i)))
-      ∙ ap (λ (l : List Entry). reply_to p.origin c valid (state_after p.origin valid l)) (sym (take_all at q.seen (omega (arith, at_is))));
-  mine_is = mine;
-}

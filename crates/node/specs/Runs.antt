@@ -28,7 +28,7 @@ use Rattle.node.specs.declared.fault.Fault.{Fault}
 use Rattle.node.specs.declared.fault.Fault.TheVariants.{Owed, Unknown}
 use Rattle.node.specs.Pass.{Pass, Heard, IsLater, IsLonger, IsWrite, IsRead, AreCoins, IsListed, owed_entry}
 use Rattle.node.specs.Calls.{IsSubmitAnswer, IsLearnAnswer, IsWriteFault, IsJudgeFault, IsReadFault, IsClosedFault}
-use Rattle.node.specs.Told.{AreNext, best_in, coins_in, output_at, reply_to, shown_tips}
+use Rattle.node.specs.Told.{AreNext, best_in, coins_in, output_at, reply_to, shown_tips, undo_in}
 
 -- a call of a seat, with what was answered
 pub data Call : Type 0 where
@@ -37,6 +37,7 @@ pub data Call : Type 0 where
   Mark : Command → Result (Stamped MarkReply) Fault → Call
   Learn : Triple → Bool → Result (Stamped Learning) Fault → Call
   Judge : List ℕ → ℕ → Result (Stamped SubmitReply) Fault → Call
+  Spent : Id → Result (Stamped (Option (List (List Coin)))) Fault → Call
   GetTxOut : OutPoint → Result (Stamped (Option UnspentOutput)) Fault → Call
   CoinsFrom : Option OutPoint → ℕ → Result (Stamped (Vec (OutPoint × Coin))) Fault → Call
   GetBestBlockHash : Result (Stamped Id) Fault → Call
@@ -64,6 +65,7 @@ Ensures p q (Submit bytes now r) = Contract p q r (IsSubmitAnswer p q bytes now)
 Ensures p q (Mark c r) = Contract p q r (λ at value. IsWrite p q c at (reply.Mark value)) (IsWriteFault p q c)
 Ensures p q (Learn t valid r) = Contract p q r (IsLearnAnswer p q t valid) (IsWriteFault p q (command.Learn t valid))
 Ensures p q (Judge bytes now r) = let c = command.Submit bytes now in Contract p q r (λ at value. IsRead p q (reply_to p.origin c) at (reply.Submit value)) (IsJudgeFault p q c)
+Ensures p q (Spent id r) = Contract p q r (IsRead p q (undo_in p.origin id)) (IsReadFault p q)
 Ensures p q (GetTxOut outpoint r) = Contract p q r (IsRead p q (output_at p.origin outpoint)) (IsReadFault p q)
 Ensures p q (CoinsFrom above most r) = Contract p q r (λ at list. AreCoins p q above most at list.items) (IsReadFault p q)
 Ensures p q (GetBestBlockHash r) = Contract p q r (IsRead p q (best_in p.origin)) (IsClosedFault p q)
@@ -161,6 +163,8 @@ module _ (o : Origin) (h : List Entry) (valid : Triples) where
   Explains seat n m (Mark c r) = IsAt n m r (λ value. (n < m) × IsStep seat c m (reply.Mark value))
   Explains seat n m (Learn t v r) = IsAt n m r (IsLearnt seat n m t v)
   Explains seat n m (Judge bytes now r) = IsAt n m r (λ value. reply.Submit value ≡ reply_to o (command.Submit bytes now) valid (state_at (machine o valid) h m))
+  Explains seat n m (Spent id r) = let M = machine o valid in
+      IsAt n m r (λ value. value ≡ undo_in o id valid (state_at M h m))
   Explains seat n m (GetTxOut outpoint r) = IsAt n m r (λ value. value ≡ output_at o outpoint valid (state_at (machine o valid) h m))
   Explains seat n m (CoinsFrom above most r) = IsAt n m r (λ list. AreNext (coins_in o valid (state_at (machine o valid) h m)) above most list.items)
   Explains seat n m (GetBestBlockHash r) = IsAt n m r (λ value. value ≡ best_in o valid (state_at (machine o valid) h m))

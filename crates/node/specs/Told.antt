@@ -13,6 +13,7 @@ use Rattle.chain.specs.Regtest.{ledger, regtest}
 use Rattle.chain.specs.declared.command.Command.{Command}
 use Rattle.chain.specs.declared.reply.Reply.{Reply}
 use Rattle.chain.specs.Replay.{coins}
+use Rattle.activate.specs.Lookups.{spent_by}
 use Rattle.view.specs.Origin.{Origin, machine}
 use Rattle.node.specs.declared.answer.UnspentOutput.{UnspentOutput}
 
@@ -41,6 +42,10 @@ coins_in o valid s = coins (regtest o.params valid) ledger s
 -- the id of the best block
 abbrev pub best_in : (o : Origin) → (valid : Triples) → (machine o valid).State → Id
 best_in o valid s = (machine o valid).best s
+
+-- the coins that an active block spent, by transactions from the second on (Bitcoin Core's undo data)
+abbrev pub undo_in : (o : Origin) → Id → (valid : Triples) → (machine o valid).State → Option (List (List Coin))
+undo_in o id valid s = spent_by (regtest o.params valid) s id
 
 -- the reply that a command would get
 abbrev pub reply_to : (o : Origin) → Command → (valid : Triples) → (machine o valid).State → Reply

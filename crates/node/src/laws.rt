@@ -14,7 +14,7 @@ ghost use Rattle.view.specs.Origin.{Origin, known_in};
 ghost use Rattle.view.specs.ViewState.{IsLegal};
 ghost use Rattle.node.specs.Pass.{Pass, IsStanding, opening_pass, opening_passes};
 ghost use Rattle.node.specs.Runs.{Call, Submit, Mark, GetTxOut, CoinsFrom, GetBestBlockHash};
-ghost use Rattle.node.specs.Runs.{GetChainTips, Judge};
+ghost use Rattle.node.specs.Runs.{GetChainTips, Judge, Spent};
 ghost use Rattle.node.specs.Runs.{Journal, Note as Noted, Told, heard};
 ghost use Rattle.node.specs.Runs.{Makes, IsStep, ExplainsAll, steps_of};
 
@@ -31,6 +31,7 @@ use std::sync::Wait;
 use std::thread::Threads;
 use tree::Tip;
 use txn::OutPoint;
+use undo::BlockUndo;
 use view::Naming;
 
 /// Seats and notes may be given to other threads, and notes be shared with them.
@@ -126,6 +127,18 @@ pub fn dry_runs_are_calls<J: Naming, R: Threads + Wait + Sync>(
     ensures { Makes seat.old (Judge bytes.now now result ∷ []) seat.new }
 {
     seat.judge(rt, node, bytes, now)
+}
+
+/// And so of a look-up.
+pub fn look_ups_are_calls<J: Naming, R: Wait>(
+    rt: &R,
+    node: &Node<'_, J>,
+    seat: &mut Seat<'_, J>,
+    id: &Id,
+) -> Result<Stamped<Option<BlockUndo>>, Fault>
+    ensures { Makes seat.old (Spent id.now result ∷ []) seat.new }
+{
+    seat.spent(rt, node, id)
 }
 
 /// And so of a reading call.

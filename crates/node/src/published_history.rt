@@ -5,13 +5,15 @@ ghost use Rattle.std.specs.Prelude.{◌≡◌, ◌≤◌, ◌∷◌, ◌++◌, [
 ghost use mathlib.Core.List.{IsPrefix};
 ghost use Rattle.std.specs.Arc.{arc_value};
 ghost use Rattle.chain.specs.declared.entry.Entry.{Entry as EntryValue};
+ghost use Rattle.curve.specs.Known.{Under};
 ghost use Rattle.queue.specs.Jobs.{IsEarly};
 ghost use Rattle.chain.specs.History.{own_of};
 ghost use Rattle.chain.specs.Prepared.{command_of};
 ghost use Rattle.view.specs.Beginning.{count_of};
 ghost use Rattle.view.specs.Origin.{known_in};
-ghost use Rattle.view.specs.ViewState.{IsLegal};
+ghost use Rattle.view.specs.ViewState.{IsLegal, state_after};
 ghost use Rattle.node.specs.Pass.{owed_entry};
+ghost use Rattle.node.specs.Told.{undo_in};
 ghost use Rattle.node.specs.inside.LastPlaces.{AreLastPlaces};
 ghost use Rattle.node.specs.inside.PublishedState.{IsLockedAt, IsReady, IsReplyAfter, IsStepAnswer, Shows, opening_state, entry_with_reply};
 ghost use Rattle.node.specs.inside.Refused.{IsWantAfter};
@@ -40,13 +42,16 @@ pub(crate) use crate::published_history::refusal::Refusal;
 use crate::published_history::writer_home::WriterHome;
 use chain::{Command, Entry, PreparedCommand, Reply};
 use curve::{KeptTriple, KnownSignatures, Table};
+use hash::Id;
 use queue::{Crew, Gate};
 use std::alloc::Global;
 use std::marker::{Model, PhantomData};
 use std::mem::replace;
 use std::sync::atomic::Ordering;
 use std::sync::{Arc, Wait};
+use undo::BlockUndo;
 use view::{Hub, Naming, Note, Publication, reserve_one};
+use wire::Memory;
 
 /// The history, with the chainstate after it but its coins. A step is owed that is taken and not yet published.
 #[derive(Drop)]
@@ -330,6 +335,15 @@ impl<J: Naming> PublishedHistory<J> {
             IfErr result (IsWantAfter J.origin self.old.journal c) }
     {
         self.chain.judge(self.alloc, command, crews, gate)
+    }
+
+    /// The coins that an active block spent, after all entries, an owed one too.
+    pub(crate) fn spent(&self, id: &Id) -> Result<Option<BlockUndo>, Memory>
+        ensures { let o = J.origin in let es = self.now.journal in
+            IfOk result (λ found. Under (known_in o es) (λ valid.
+            found ≡ undo_in o id.now valid (state_after o valid es))) }
+    {
+        self.chain.core.spent(self.alloc, id)
     }
 }
 

@@ -27,7 +27,7 @@ use Rattle.node.specs.declared.fault.Fault.TheVariants.{Memory, Owed, Closed, Un
 use Rattle.node.specs.Pass.{Pass, Heard, opening_pass, IsLater, IsLonger, IsWrite, IsRead, AreCoins, IsListed, IsStanding}
 use Rattle.node.specs.Calls.{IsSubmitAnswer, IsLearnAnswer, IsVerdict, IsWriteFault, IsJudgeFault, IsReadFault, IsClosedFault}
 use Rattle.node.specs.Told.{AreNext, coins_in}
-use Rattle.node.specs.Runs.{Call, Submit, Mark, Learn, Judge, GetTxOut, CoinsFrom, GetBestBlockHash, GetChainTips, Journal, Note, Told, Ensures, Makes, step_of_reply, step_of_learning, step_of_fault, step_of, steps_of, IsStep, IsSubmission, IsLearnt, IsLeft, Explains, ExplainsAll}
+use Rattle.node.specs.Runs.{Call, Submit, Mark, Learn, Judge, Spent, GetTxOut, CoinsFrom, GetBestBlockHash, GetChainTips, Journal, Note, Told, Ensures, Makes, step_of_reply, step_of_learning, step_of_fault, step_of, steps_of, IsStep, IsSubmission, IsLearnt, IsLeft, Explains, ExplainsAll}
 
 -- beginnings of a list
 begins_all : {A : Type 0} (xs ys zs : List A) → IsPrefix xs ys → IsPrefix ys zs → IsPrefix xs zs
@@ -98,6 +98,7 @@ moves p q (Submit bytes now r) e = of_later p q e.later
 moves p q (Mark c r) e = of_later p q e.later
 moves p q (Learn t v r) e = of_later p q e.later
 moves p q (Judge bytes now r) e = of_later p q e.later
+moves p q (Spent id r) e = of_later p q e.later
 moves p q (GetTxOut outpoint r) e = of_later p q e.later
 moves p q (GetBestBlockHash r) e = of_later p q e.later
 moves p q (CoinsFrom above most r) e = of_later p q e.later
@@ -236,6 +237,8 @@ module _ (h : List Entry) (p q : Pass) (legal : IsLegal p.origin h) (begins : Is
   explained (Learn t v (Err f)) e = write_fault p q (command.Learn t v) f grows e.fault
   explained (Judge bytes now (Ok r)) e = read _ r.at (reply.Submit r.value) e.answer
   explained (Judge bytes now (Err f)) e = judge_fault p q (command.Submit bytes now) f grows e.fault
+  explained (Spent id (Ok r)) e = read _ r.at r.value e.answer
+  explained (Spent id (Err f)) e = stays f (read_fault p q f e.fault)
   explained (GetTxOut outpoint (Ok r)) e = read _ r.at r.value e.answer
   explained (GetTxOut outpoint (Err f)) e = stays f (read_fault p q f e.fault)
   explained (GetBestBlockHash (Ok r)) e = read _ r.at r.value e.answer
@@ -308,6 +311,8 @@ module _ (p q : Pass) where
   left (Learn t v (Err f)) e = left_unanswered (command.Learn t v) f e.fault
   left (Judge bytes now (Ok r)) e = kept e.answer.mine_is
   left (Judge bytes now (Err f)) e = left_unjudged (command.Submit bytes now) f e.fault
+  left (Spent id (Ok r)) e = kept e.answer.mine_is
+  left (Spent id (Err f)) e = same_mine (read_fault p q f e.fault)
   left (GetTxOut outpoint (Ok r)) e = kept e.answer.mine_is
   left (GetTxOut outpoint (Err f)) e = same_mine (read_fault p q f e.fault)
   left (GetBestBlockHash (Ok r)) e = kept e.answer.mine_is

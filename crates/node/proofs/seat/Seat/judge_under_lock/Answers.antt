@@ -4,9 +4,11 @@ use Rattle.chain.specs.declared.command.Command.{Command}
 use Rattle.chain.specs.declared.entry.Entry.{Entry}
 use Rattle.view.specs.Origin.{Origin}
 use Rattle.node.specs.Pass.{Pass}
+use Rattle.node.specs.Told.{reply_to}
 use Rattle.node.specs.inside.PublishedState.{PublishedState}
-use Rattle.node.proofs.DryRuns.{never_marked, read_after}
+use Rattle.node.proofs.DryRuns.{never_marked}
 use Rattle.node.proofs.Owning.{own_begins}
+use Rattle.node.proofs.Seen.{read_after}
 use Rattle.node.proofs.seat.Seat.judge_under_lock.Goals as goal
 
 pub returns-in-Ok-Submit-clause-answer : goal.returns-in-Ok-Submit-clause-answer
@@ -19,7 +21,7 @@ returns-in-Ok-Submit-clause-answer g c =
     let see = c.in_ok-at-in-Ok-Submit.ensures in
     let said = rw c.in-Ok-Submit.field-0-is at c.in-Ok-Submit.ensures.reply in
     let seen : here.journal ≡ q.seen = sym (ap (λ (h : PublishedState). h.journal) c.in-Ok-Submit.ensures.same) ∙ sym see.seen.0 in
-    read_after p q k c.in_ok-at-in-Ok-Submit.at o here.journal _ (ap (λ (r : Pass). r.origin) c.self.view_is) seen see.seen.1 see.mine said
+    read_after (λ (x : Origin). reply_to x k) p q c.in_ok-at-in-Ok-Submit.at o here.journal _ (ap (λ (r : Pass). r.origin) c.self.view_is) seen see.seen.1 see.mine said
 
 pub unreachable-requires : goal.unreachable-requires
 unreachable-requires g c =
