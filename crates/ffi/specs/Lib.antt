@@ -3,9 +3,11 @@ pub mod BlockRules
 pub mod Blocks
 pub mod Codes
 pub mod Hashes
+pub mod Headers
 pub mod Keeping
 pub mod Known
 pub mod Lookups
+pub mod Merkle
 pub mod Named
 pub mod Parsed
 pub mod Parts
