@@ -1,4 +1,5 @@
 pub mod Answers
+pub mod Bits
 pub mod BlockRules
 pub mod Blocks
 pub mod Codes

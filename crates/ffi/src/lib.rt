@@ -2,8 +2,10 @@
 #![tactic(auto)]
 
 mod answers;
+mod bits;
 mod block_rules;
 mod blocks;
+mod division;
 mod evaluating;
 mod exports;
 mod front;
@@ -34,6 +36,7 @@ mod unboxed;
 mod utxo;
 mod utxo_calls;
 mod utxo_slot;
+mod work;
 
 pub use answers::{
     Answer, Heights, Made, Name, Place, ShownCoin, ShownHeader, ShownSpent, ShownTip,

@@ -134,6 +134,13 @@ pub struct KeyName {
     pub bytes: [u8; 20],
 }
 
+/// A number of 256 bits, its lowest byte first, as Bitcoin Core's `uint256` is kept.
+#[repr(C)]
+#[derive(Clone, Copy, Drop)]
+pub struct Uint256 {
+    pub bytes: [u8; 32],
+}
+
 /// The digits of an id.
 #[repr(C)]
 #[derive(Clone, Copy, Drop)]
