@@ -1,5 +1,5 @@
 -- Targets, and the bits that spell them in a header (Bitcoin Core's `arith_uint256::SetCompact` and `GetCompact`).
-use Rattle.std.specs.Prelude.{◌≡◌, ℕ, ◌+◌, ◌*◌, ◌/◌, ◌%◌, ◌^◌, ◌<◌, ◌≤◌, Bool, not, ◌&&◌, ◌||◌, ◌==◌, List, [], ◌∷◌, if◌then◌else◌, nat_le, nat_lt}
+use Rattle.std.specs.Prelude.{◌≡◌, ℕ, ◌+◌, ◌*◌, ◌/◌, ◌%◌, ◌^◌, ◌<◌, ◌≤◌, Bool, not, ◌&&◌, ◌==◌, List, [], ◌∷◌, if◌then◌else◌, nat_le, nat_lt}
 
 -- the number of bytes, the lowest first
 abbrev pub number : List ℕ → ℕ
@@ -62,10 +62,3 @@ compact negative size word =
 -- the bits of a number
 abbrev pub IsCompact : ℕ → Bool → ℕ → Type 0
 IsCompact n negative bits = (size : ℕ) × IsSize n size × (bits ≡ compact negative size (front size n))
-
--- ---- work
-
--- how many hashes meet the target on average (Bitcoin Core's `GetBlockProof`); 0 where it is 0 or has a fault
-unfoldable pub work : ℕ → ℕ
-work bits =
-    if is_negative bits || overflows bits || (target bits == 0) then 0 else 2 ^ 256 / (target bits + 1)

@@ -21,4 +21,5 @@ pub mod Tables
 pub mod Transactions
 pub mod Utxo
 pub mod UtxoState
+pub mod Work
 pub mod inside

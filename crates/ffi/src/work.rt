@@ -1,7 +1,8 @@
 //! The work of a block, by its header's bits.
 
 ghost use Rattle.std.specs.Prelude.{◌≡◌};
-ghost use Rattle.ffi.specs.Bits.{number, work};
+ghost use Rattle.ffi.specs.Bits.{number};
+ghost use Rattle.ffi.specs.Work.{work};
 
 use crate::bits::target_of;
 use crate::division::{Wide, share};
