@@ -1,5 +1,5 @@
 -- The number of 32 bytes by its halves, and one step of a long division.
-use Rattle.std.proofs.Common.{◌≡◌, ℕ, zero, suc, ◌+◌, ◌-◌, ◌*◌, ◌/◌, ◌%◌, ◌^◌, ◌<◌, ◌≤◌, List, [], ◌∷◌, ◌++◌, length, take, drop, slice_index, refl, ap, sym, ◌∙◌, arith, add-one}
+use Rattle.std.proofs.Common.{◌≡◌, ℕ, zero, suc, ◌+◌, ◌*◌, ◌/◌, ◌%◌, ◌^◌, ◌<◌, ◌≤◌, List, [], ◌∷◌, ◌++◌, length, take, drop, slice_index, refl, ap, sym, ◌∙◌, arith, add-one}
 use Rattle.std.specs.Int.{w128, byte_at, byte_worth, sum_through, from_le_bytes, to_le_bytes, bytes_low_first}
 use Rattle.std.proofs.Math.Nat.{add-mul, div-div-eq-div-mul, div-one, mul_assoc, pow-suc, pow-le-pow_right}
 use Rattle.std.proofs.Math.Arith.{mod-mul}

@@ -1,7 +1,6 @@
 -- By the size, from which there is room for more.
-use Rattle.std.proofs.Common.{◌≡◌, refl, sym, ap, ◌∙◌, arith}
+use Rattle.std.proofs.Common.{arith}
 use Rattle.std.proofs.lemmas.Bool.Decides.{nat_tests}
-use Rattle.ffi.specs.Bits.{scaled}
 use Rattle.ffi.proofs.Digits.{scaled_at_33, scaled_at_34, scaled_large, scaled_small, scaled_zero}
 use Rattle.ffi.proofs.bits.is_above.Goals as goal
 

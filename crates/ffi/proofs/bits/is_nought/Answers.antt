@@ -1,7 +1,6 @@
 -- By the size, up to which the lowest bytes of the word are lost.
-use Rattle.std.proofs.Common.{◌≡◌, refl, sym, ap, ◌∙◌, arith}
+use Rattle.std.proofs.Common.{refl, arith}
 use Rattle.std.proofs.lemmas.Bool.Decides.{nat_tests}
-use Rattle.ffi.specs.Bits.{scaled}
 use Rattle.ffi.proofs.Digits.{scaled_at_0, scaled_at_1, scaled_at_2, scaled_some, scaled_zero}
 use Rattle.ffi.proofs.bits.is_nought.Goals as goal
 

@@ -1,6 +1,6 @@
 -- A byte that isn't 0 is the highest so far, and the bytes before it have room below it.
 use Rattle.std.proofs.Common.{◌≡◌, ℕ, ◌+◌, ◌*◌, ◌/◌, ◌^◌, ◌<◌, take, get_or, sym, ap, ◌∙◌, arith}
-use Rattle.ffi.specs.Bits.{IsSize, front, number}
+use Rattle.ffi.specs.Bits.{front, number}
 use Rattle.ffi.proofs.Digits.{front_more, front_none, front_within, number_take, pow_le, size_more, size_none}
 use Rattle.ffi.proofs.bits.leading_of.Goals as goal
 use Rattle.ffi.proofs.bits.leading_of.Goals.{then-bytes-place-ne0, else-bytes-place-ne0}

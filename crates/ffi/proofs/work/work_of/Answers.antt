@@ -2,7 +2,6 @@
 use Rattle.std.proofs.Common.{◌≡◌, ℕ, ◌+◌, ◌/◌, ◌^◌, ◌==◌, Bool, true, false, ◌||◌, if◌then◌else◌, refl, ap, sym, ◌∙◌}
 use Rattle.ffi.specs.Bits.{is_negative, overflows, target}
 use Rattle.ffi.specs.Work.{work}
-use Rattle.ffi.specs.inside.Wide.{value}
 use Rattle.ffi.proofs.work.work_of.Goals as goal
 use Rattle.ffi.proofs.work.work_of.Goals.{then-target-via-then-target, then-target-via-else-target+then-target-2, then-target-via-else-target+else-target-2+then-is_zero}
 
