@@ -22,6 +22,11 @@ uint32_t ffi_block(const uint8_t *bytes, size_t length, wakotehu_block_shown *sh
 uint32_t ffi_block_size(const uint8_t *bytes, size_t length, uint64_t *size);
 uint32_t ffi_block_place(const uint8_t *bytes, size_t length, uint32_t height, uint32_t median, uint64_t now,
                          const wakotehu_heights *heights, uint32_t *reason);
+uint32_t ffi_header_read(const uint8_t *bytes, size_t length, wakotehu_header_fields *header);
+uint32_t ffi_merkle(const uint8_t *ids, size_t count, uint8_t *root, uint32_t *twin);
+void ffi_read_bits(uint32_t bits, uint8_t *target, uint32_t *negative, uint32_t *overflow);
+uint32_t ffi_write_bits(const uint8_t *target, uint32_t negative);
+void ffi_work(uint32_t bits, uint8_t *work);
 uint32_t ffi_record(const uint8_t *bytes, size_t length, uint64_t *block);
 int64_t ffi_subsidy(uint32_t height);
 uint32_t ffi_meets_target(const uint8_t *id);
@@ -57,6 +62,8 @@ uint32_t ffi_table_has(const uint8_t *table, size_t length, const uint8_t *key, 
                        uint32_t *yes);
 uint32_t ffi_table_line(const uint8_t *key, size_t key_length, const uint8_t *signature, size_t signature_length,
                         const uint8_t *digest, uint8_t *line, size_t most, uint64_t *length);
+void ffi_sha1(const uint8_t *bytes, size_t length, uint8_t *digest);
+void ffi_sha256(const uint8_t *bytes, size_t length, uint8_t *digest);
 void ffi_ripemd160(const uint8_t *bytes, size_t length, uint8_t *digest);
 void ffi_hash160(const uint8_t *bytes, size_t length, uint8_t *digest);
 void ffi_double_sha(const uint8_t *bytes, size_t length, uint8_t *digest);
@@ -66,6 +73,7 @@ uint32_t ffi_transactions(const uint8_t *bytes, size_t length, wakotehu_made *ro
 
 _Static_assert(sizeof(wakotehu_transaction) == 80 && offsetof(wakotehu_transaction, reason) == 76, "as ShownTx");
 _Static_assert(sizeof(wakotehu_block_shown) == 176 && offsetof(wakotehu_block_shown, reason) == 168, "as ShownBlock");
+_Static_assert(sizeof(wakotehu_header_fields) == 112 && offsetof(wakotehu_header_fields, nonce) == 108, "as HeaderRow");
 _Static_assert(sizeof(wakotehu_opcode) == 24 && sizeof(wakotehu_script_shown) == 32, "as ShownOp and ShownScript");
 _Static_assert(sizeof(wakotehu_start) == 8 && sizeof(wakotehu_flags) == 12, "as Start and ShownFlags");
 _Static_assert(sizeof(wakotehu_made) == 40, "as Made");
@@ -157,6 +165,41 @@ wakotehu_code wakotehu_record(const uint8_t *bytes, size_t length, uint64_t *blo
     if (!readable(bytes, length) || !block)
         return WAKOTEHU_NULL;
     return (wakotehu_code)ffi_record(AT(bytes, length), length, block);
+}
+
+wakotehu_code wakotehu_read_header(const uint8_t *bytes, size_t length, wakotehu_header_fields *header) {
+    if (!readable(bytes, length) || !header)
+        return WAKOTEHU_NULL;
+    return (wakotehu_code)ffi_header_read(AT(bytes, length), length, header);
+}
+
+enum { ID = 32 };
+
+wakotehu_code wakotehu_merkle(const uint8_t *ids, size_t count, uint8_t *root, uint32_t *twin) {
+    if (!rows_fit(ids, count, ID) || !root || !twin)
+        return WAKOTEHU_NULL;
+    return (wakotehu_code)ffi_merkle(AT(ids, count), count, root, twin);
+}
+
+wakotehu_code wakotehu_read_bits(uint32_t bits, uint8_t *target, uint32_t *negative, uint32_t *overflow) {
+    if (!target || !negative || !overflow)
+        return WAKOTEHU_NULL;
+    ffi_read_bits(bits, target, negative, overflow);
+    return WAKOTEHU_OK;
+}
+
+wakotehu_code wakotehu_write_bits(const uint8_t *target, uint32_t negative, uint32_t *bits) {
+    if (!target || !bits)
+        return WAKOTEHU_NULL;
+    *bits = ffi_write_bits(target, negative);
+    return WAKOTEHU_OK;
+}
+
+wakotehu_code wakotehu_work(uint32_t bits, uint8_t *work) {
+    if (!work)
+        return WAKOTEHU_NULL;
+    ffi_work(bits, work);
+    return WAKOTEHU_OK;
 }
 
 int64_t wakotehu_subsidy(uint32_t height) { return ffi_subsidy(height); }
@@ -393,6 +436,14 @@ static wakotehu_code hash(void (*call)(const uint8_t *, size_t, uint8_t *), cons
         return WAKOTEHU_NULL;
     call(AT(bytes, length), length, digest);
     return WAKOTEHU_OK;
+}
+
+wakotehu_code wakotehu_sha1(const uint8_t *bytes, size_t length, uint8_t *digest) {
+    return hash(ffi_sha1, bytes, length, digest);
+}
+
+wakotehu_code wakotehu_sha256(const uint8_t *bytes, size_t length, uint8_t *digest) {
+    return hash(ffi_sha256, bytes, length, digest);
 }
 
 wakotehu_code wakotehu_ripemd160(const uint8_t *bytes, size_t length, uint8_t *digest) {

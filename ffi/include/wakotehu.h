@@ -51,7 +51,7 @@ typedef enum {
     WAKOTEHU_SHORT = 20,    /* the bytes end too early */
     WAKOTEHU_LONG_FORM = 21, /* a count is spelled in more bytes than it needs */
     WAKOTEHU_TOO_LARGE = 22, /* a count is above 33,554,432 */
-    WAKOTEHU_EXTRA = 23,    /* bytes stand behind the block, or behind the transaction */
+    WAKOTEHU_EXTRA = 23,    /* bytes stand behind the block, the header or the transaction */
     WAKOTEHU_NO_INPUT = 24, /* the transaction has no input of this number */
     WAKOTEHU_MISMATCH = 25, /* another number of them is wanted */
     WAKOTEHU_FOREIGN = 26,  /* no record of a blk file, and not zero bytes alone */
@@ -375,6 +375,13 @@ typedef struct {
     uint32_t time, bits, nonce, twin, target, reason;
 } wakotehu_block_shown;
 
+/* A header by itself: its id, and its fields. */
+typedef struct {
+    uint8_t id[32], parent[32], root[32];
+    int32_t version;
+    uint32_t time, bits, nonce;
+} wakotehu_header_fields;
+
 /* A transaction of a block: its id, and how many outputs it has. */
 typedef struct {
     uint8_t id[32];
@@ -430,6 +437,9 @@ wakotehu_code wakotehu_locks_met(const uint8_t *bytes, size_t length, const wako
 /* Reads the block that all the bytes spell. */
 wakotehu_code wakotehu_read_block(const uint8_t *bytes, size_t length, wakotehu_block_shown *shown);
 
+/* Reads the header that the 80 bytes are; WAKOTEHU_SHORT of fewer bytes, WAKOTEHU_EXTRA of more. */
+wakotehu_code wakotehu_read_header(const uint8_t *bytes, size_t length, wakotehu_header_fields *header);
+
 /* How many bytes the block at the front takes; the others are left. */
 wakotehu_code wakotehu_block_size(const uint8_t *bytes, size_t length, uint64_t *size);
 
@@ -446,6 +456,23 @@ wakotehu_code wakotehu_block_place(const uint8_t *bytes, size_t length, uint32_t
 /* How many bytes the block has of the record at the front of a blk file's bytes, behind the record's first 8.
  * WAKOTEHU_NONE at the end: zero bytes alone. */
 wakotehu_code wakotehu_record(const uint8_t *bytes, size_t length, uint64_t *block);
+
+/* The root of the Merkle tree of `count` ids, 32 bytes each, one after the other (Bitcoin Core's ComputeMerkleRoot, whose
+ * `mutated` is `twin`: another list of ids has this root too). The root of no ids is 32 zero bytes. */
+wakotehu_code wakotehu_merkle(const uint8_t *ids, size_t count, uint8_t *root, uint32_t *twin);
+
+/* The target that the bits of a header spell, and its faults: it has a sign, or more than 256 bits, of which the lowest are
+ * told (Bitcoin Core's SetCompact). A target is a number in 32 bytes, the lowest first, as Bitcoin Core's uint256 is kept;
+ * so is the work below. */
+wakotehu_code wakotehu_read_bits(uint32_t bits, uint8_t *target, uint32_t *negative, uint32_t *overflow);
+
+/* The bits of a target, with the sign's bit where `negative` isn't 0 (Bitcoin Core's GetCompact). They spell its three highest
+ * bytes, or two where the third would begin with the sign's bit; what is below is lost. */
+wakotehu_code wakotehu_write_bits(const uint8_t *target, uint32_t negative, uint32_t *bits);
+
+/* How many hashes a header with these bits takes on average, as a chain's work is counted (Bitcoin Core's GetBlockProof):
+ * 2^256 / (target + 1), and 0 where the target is 0 or has a fault. */
+wakotehu_code wakotehu_work(uint32_t bits, uint8_t *work);
 
 /* The new coins of a block of this height on regtest, in satoshis. */
 int64_t wakotehu_subsidy(uint32_t height);
@@ -629,9 +656,11 @@ wakotehu_code wakotehu_table_has(const char *table, size_t length, const uint8_t
 wakotehu_code wakotehu_table_add(char *table, size_t room, size_t *length, const uint8_t *key, size_t key_length,
                                  const uint8_t *signature, size_t signature_length, const uint8_t *digest);
 
-/* RIPEMD-160 and HASH160 (20 bytes), and SHA-256 twice (32 bytes). */
+/* SHA-1, RIPEMD-160 and HASH160 (20 bytes), SHA-256 and SHA-256 twice (32 bytes). */
+wakotehu_code wakotehu_sha1(const uint8_t *bytes, size_t length, uint8_t *digest);
 wakotehu_code wakotehu_ripemd160(const uint8_t *bytes, size_t length, uint8_t *digest);
 wakotehu_code wakotehu_hash160(const uint8_t *bytes, size_t length, uint8_t *digest);
+wakotehu_code wakotehu_sha256(const uint8_t *bytes, size_t length, uint8_t *digest);
 wakotehu_code wakotehu_double_sha(const uint8_t *bytes, size_t length, uint8_t *digest);
 
 /* The 64 digits of an id as programs print it, without a zero byte at the end; and the id of 64 digits, else

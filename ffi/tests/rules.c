@@ -96,6 +96,7 @@ struct told {
     wakotehu_block_shown block;
     wakotehu_opcode opcode;
     wakotehu_script_shown script;
+    wakotehu_header_fields header;
     wakotehu_input inputs[2];
     wakotehu_output outputs[2];
     wakotehu_made rows[2];
@@ -133,7 +134,10 @@ static struct told nothing_told(void) {
 }
 
 /* Each call that may take memory, then those that take none; the numbers are those of `MEMORY_FREE` on. */
-enum { MEMORY_FREE = 20, CALLS = 27 };
+enum { MEMORY_FREE = 21, CALLS = 33 };
+
+/* Three ids, and the last of them again: the list without the repetition has the same root. */
+static const uint8_t four_ids[4][32] = {{1}, {2}, {3}, {3}};
 
 static wakotehu_code nth_call(int call, struct told *it) {
     static const wakotehu_input input = {{7}, 2, 0, 0};
@@ -171,13 +175,19 @@ static wakotehu_code nth_call(int call, struct told *it) {
     }
     case 19: return wakotehu_eval_script(tx, TX, 0, separated, 3, 0, given_sizes, 2, given, 3, table, TABLE, NULL, 0,
                                          &it->line, &it->evaluated, it->sizes, 8, it->bytes, 128, it->text, 256, &it->count);
+    case 20: return wakotehu_merkle(four_ids[0], 4, it->bytes, &it->yes);
     /* MEMORY_FREE */
-    case 20: return wakotehu_next_opcode(spent, 3, &it->opcode);
-    case 21: return wakotehu_script(spent, 3, &it->script);
-    case 22: return wakotehu_read_number(spent, 3, 4, &it->value);
-    case 23: return wakotehu_median(times, 3, &it->yes);
-    case 24: return wakotehu_strict_signature(signature, 8, &it->yes);
-    case 25: return wakotehu_hash160(spent, 3, it->bytes);
+    case 21: return wakotehu_next_opcode(spent, 3, &it->opcode);
+    case 22: return wakotehu_script(spent, 3, &it->script);
+    case 23: return wakotehu_read_number(spent, 3, 4, &it->value);
+    case 24: return wakotehu_median(times, 3, &it->yes);
+    case 25: return wakotehu_strict_signature(signature, 8, &it->yes);
+    case 26: return wakotehu_hash160(spent, 3, it->bytes);
+    case 27: return wakotehu_sha256(spent, 3, it->bytes);
+    case 28: return wakotehu_read_header(b1, 80, &it->header);
+    case 29: return wakotehu_read_bits(0x04923456, it->bytes, &it->yes, &it->evaluated.error);
+    case 30: return wakotehu_write_bits(digest, 1, &it->yes);
+    case 31: return wakotehu_work(0x1d00ffff, it->bytes);
     default: return wakotehu_read_id("00", 2, it->bytes) == WAKOTEHU_NONE ? WAKOTEHU_OK : WAKOTEHU_NULL;
     }
 }
@@ -217,6 +227,8 @@ static void values(void) {
     EXPECT(it.block.reason == 0 && it.block.size == sizeof b1 && it.block.transactions == 1);
     EXPECT(memcmp(it.rows[0].id, b1_coinbase, 32) == 0 && it.rows[0].outputs == 1);
     EXPECT(it.value == -(0x1c5393));
+    EXPECT(memcmp(it.header.id, it.block.id, 32) == 0 && memcmp(it.header.root, it.block.root, 32) == 0);
+    EXPECT(it.header.time == it.block.time && it.header.bits == 0x207fffff && it.header.nonce == it.block.nonce);
     /* read and written back */
     uint8_t scripts[TX], bytes[TX];
     uint64_t length = 0;
@@ -314,6 +326,41 @@ static void evaluations(void) {
     EXPECT(error == WAKOTEHU_SCRIPT_OK);
 }
 
+/* Bitcoin Core's values of bits and work, published digests of "abc", and a list that has another one's root. */
+static void sums(void) {
+    static const struct {
+        uint32_t bits, again, negative, overflow;
+        uint8_t target[32];
+    } cases[] = {
+        {0x01803456, 0, 0, 0, {0}},
+        {0x01fedcba, 0x01fe0000, 1, 0, {0x7e}},
+        {0x04923456, 0x04923456, 1, 0, {0, 0x56, 0x34, 0x12}},
+        {0x05009234, 0x05009234, 0, 0, {0, 0, 0x34, 0x92}},
+        {0x22000012, 0x20120000, 0, 0, {[31] = 0x12}},
+        {0x23000001, 0, 0, 1, {0}},
+        {0xff123456, 0, 0, 1, {0}},
+    };
+    static const uint8_t one_work[32] = {1, 0, 1, 0, 1}, two_work[32] = {2}, zeros[32] = {0};
+    static const uint8_t sha256[] = {0xba, 0x78, 0x16, 0xbf}, sha1[] = {0xa9, 0x99, 0x3e, 0x36};
+    uint8_t found[32], other[32];
+    uint32_t negative, overflow, bits, twin = 7;
+    for (size_t n = 0; n < sizeof cases / sizeof *cases; n++) {
+        memset(found, 9, 32), negative = overflow = bits = 7;
+        EXPECT(wakotehu_read_bits(cases[n].bits, found, &negative, &overflow) == WAKOTEHU_OK);
+        EXPECT(memcmp(found, cases[n].target, 32) == 0);
+        EXPECT(negative == cases[n].negative && overflow == cases[n].overflow);
+        EXPECT(wakotehu_write_bits(found, negative * 5, &bits) == WAKOTEHU_OK && bits == cases[n].again);
+    }
+    EXPECT(wakotehu_work(0x1d00ffff, found) == WAKOTEHU_OK && memcmp(found, one_work, 32) == 0);
+    EXPECT(wakotehu_work(0x207fffff, found) == WAKOTEHU_OK && memcmp(found, two_work, 32) == 0);
+    EXPECT(wakotehu_work(0x04923456, found) == WAKOTEHU_OK && memcmp(found, zeros, 32) == 0);
+    EXPECT(wakotehu_merkle(four_ids[0], 4, found, &twin) == WAKOTEHU_OK && twin == 1);
+    EXPECT(wakotehu_merkle(four_ids[0], 3, other, &twin) == WAKOTEHU_OK && twin == 0 && memcmp(found, other, 32) == 0);
+    EXPECT(wakotehu_merkle(NULL, 0, found, &twin) == WAKOTEHU_OK && twin == 0 && memcmp(found, zeros, 32) == 0);
+    EXPECT(wakotehu_sha256((const uint8_t *)"abc", 3, found) == WAKOTEHU_OK && memcmp(found, sha256, 4) == 0);
+    EXPECT(wakotehu_sha1((const uint8_t *)"abc", 3, found) == WAKOTEHU_OK && memcmp(found, sha1, 4) == 0);
+}
+
 /* Answers that write nothing but what is said of them. */
 static void refusals(void) {
     struct told it = nothing_told(), before = nothing_told();
@@ -329,6 +376,9 @@ static void refusals(void) {
     EXPECT(wakotehu_locks_met(tx, TX, NULL, 0, 0, 0, &it.yes) == WAKOTEHU_MISMATCH);
     EXPECT(wakotehu_is_final(tx, 4, 0, 0, &it.yes) == WAKOTEHU_SHORT);
     EXPECT(wakotehu_read_block(NULL, 0, &it.block) == WAKOTEHU_SHORT);
+    EXPECT(wakotehu_read_header(NULL, 0, &it.header) == WAKOTEHU_SHORT);
+    EXPECT(wakotehu_read_header(b1, 79, &it.header) == WAKOTEHU_SHORT);
+    EXPECT(wakotehu_read_header(b1, 81, &it.header) == WAKOTEHU_EXTRA);
     EXPECT(wakotehu_block_size(b1, sizeof b1 - 1, &it.count) == WAKOTEHU_SHORT);
     EXPECT(wakotehu_block_transactions(tx, TX, it.rows, 2, &it.count) == WAKOTEHU_NONE);
     EXPECT(wakotehu_block_place(tx, TX, 0, 0, 0, &regtest, &it.yes) == WAKOTEHU_SHORT);
@@ -398,6 +448,9 @@ static void null_and_hostile_lengths(void) {
         EXPECT(wakotehu_block_transactions(b1, sizeof b1, it.rows, l / 32, &it.count) == WAKOTEHU_NULL);
         EXPECT(wakotehu_block_place(b1, l, 0, 0, 0, &regtest, &it.yes) == WAKOTEHU_NULL);
         EXPECT(wakotehu_record(record, l, &it.count) == WAKOTEHU_NULL);
+        EXPECT(wakotehu_read_header(b1, l, &it.header) == WAKOTEHU_NULL);
+        EXPECT(wakotehu_merkle(four_ids[0], l / 32, it.bytes, &it.yes) == WAKOTEHU_NULL);
+        EXPECT(wakotehu_sha1(spent, l, it.bytes) == WAKOTEHU_NULL && wakotehu_sha256(spent, l, it.bytes) == WAKOTEHU_NULL);
         EXPECT(wakotehu_median(&it.yes, l / 2, &it.yes) == WAKOTEHU_NULL);
         EXPECT(wakotehu_next_opcode(spent, l, &it.opcode) == WAKOTEHU_NULL);
         EXPECT(wakotehu_script(spent, l, &it.script) == WAKOTEHU_NULL);
@@ -466,6 +519,15 @@ static void null_and_hostile_lengths(void) {
     EXPECT(wakotehu_block_place(b1, sizeof b1, 0, 0, 0, &regtest, NULL) == WAKOTEHU_NULL);
     EXPECT(wakotehu_record(NULL, 1, &it.count) == WAKOTEHU_NULL);
     EXPECT(wakotehu_record(record, RECORD, NULL) == WAKOTEHU_NULL);
+    EXPECT(wakotehu_read_header(NULL, 80, &it.header) == WAKOTEHU_NULL && wakotehu_read_header(b1, 80, NULL) == WAKOTEHU_NULL);
+    for (int n = 0; n < 3; n++) {
+        EXPECT(wakotehu_merkle(n == 0 ? NULL : four_ids[0], 4, n == 1 ? NULL : it.bytes, n == 2 ? NULL : &it.yes) == WAKOTEHU_NULL);
+        EXPECT(wakotehu_read_bits(1, n == 0 ? NULL : it.bytes, n == 1 ? NULL : &it.yes, n == 2 ? NULL : &it.yes) == WAKOTEHU_NULL);
+    }
+    EXPECT(wakotehu_write_bits(NULL, 0, &it.yes) == WAKOTEHU_NULL && wakotehu_write_bits(digest, 0, NULL) == WAKOTEHU_NULL);
+    EXPECT(wakotehu_work(1, NULL) == WAKOTEHU_NULL);
+    EXPECT(wakotehu_sha1(NULL, 1, it.bytes) == WAKOTEHU_NULL && wakotehu_sha1(spent, 3, NULL) == WAKOTEHU_NULL);
+    EXPECT(wakotehu_sha256(NULL, 1, it.bytes) == WAKOTEHU_NULL && wakotehu_sha256(spent, 3, NULL) == WAKOTEHU_NULL);
     EXPECT(wakotehu_meets_target(NULL, &it.yes) == WAKOTEHU_NULL);
     EXPECT(wakotehu_meets_target(digest, NULL) == WAKOTEHU_NULL);
     EXPECT(wakotehu_median(NULL, 1, &it.yes) == WAKOTEHU_NULL);
@@ -553,6 +615,7 @@ int main(int count, char **words) {
     long before = live;
     refused_allocations();
     values();
+    sums();
     separators();
     known_signatures();
     evaluations();

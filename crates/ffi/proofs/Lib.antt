@@ -2,7 +2,9 @@ pub mod Asked
 pub mod AsBox
 pub mod AsTxBox
 pub mod AsUtxoBox
+pub mod Digits
 pub mod Fronts
+pub mod Halves
 pub mod Opcodes
 pub mod Places
 pub mod Rows

@@ -1,11 +1,14 @@
 pub mod Answers
+pub mod Bits
 pub mod BlockRules
 pub mod Blocks
 pub mod Codes
 pub mod Hashes
+pub mod Headers
 pub mod Keeping
 pub mod Known
 pub mod Lookups
+pub mod Merkle
 pub mod Named
 pub mod Parsed
 pub mod Parts
@@ -18,4 +21,5 @@ pub mod Tables
 pub mod Transactions
 pub mod Utxo
 pub mod UtxoState
+pub mod Work
 pub mod inside

@@ -5,3 +5,4 @@ pub mod Known
 pub mod Signatures
 pub mod Agreeing
 pub mod Utxo
+pub mod Wide

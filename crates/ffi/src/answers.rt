@@ -21,7 +21,9 @@ pub(crate) const NONE: u32 = 4;
 pub(crate) const TOO_SMALL: u32 = 5;
 /// The slot holds a session already.
 pub(crate) const FULL: u32 = 6;
-/// Bytes stand behind the transaction.
+/// The bytes end too early.
+pub(crate) const SHORT: u32 = 20;
+/// Bytes stand behind what is read.
 pub(crate) const EXTRA: u32 = 23;
 /// The transaction has no input of this number.
 pub(crate) const NO_INPUT: u32 = 24;

@@ -5,12 +5,32 @@ ghost use Rattle.hash.specs.Double.{double_sha};
 ghost use Rattle.hash.specs.Id.{hex_of_id};
 ghost use Rattle.hash.specs.KeyHash.{hash160};
 ghost use Rattle.ripemd.specs.Ripemd160.{ripemd160};
+ghost use Rattle.sha1.specs.Sha1.{sha1};
+ghost use Rattle.sha2.specs.Sha256.{sha256};
 ghost use Rattle.ffi.specs.Answers.{id_of};
 ghost use Rattle.ffi.specs.Hashes.{IsIdRead};
 
 use crate::answers::{DONE, NONE, Name};
 use crate::shown::{Digits, KeyName};
 use hash::{Id, double_sha, hash160};
+use sha1::Sha1;
+use sha2::{Digest, Sha256};
+
+#[unsafe(no_mangle)]
+pub extern "C" fn ffi_sha1(bytes: &[u8], found: &mut KeyName)
+    ensures { found.new.bytes ≡ sha1 bytes.now }
+{
+    let digest = Sha1::digest(bytes);
+    found.bytes = digest;
+}
+
+#[unsafe(no_mangle)]
+pub extern "C" fn ffi_sha256(bytes: &[u8], found: &mut Name)
+    ensures { found.new.bytes ≡ sha256 bytes.now }
+{
+    let digest = Sha256::digest(bytes);
+    found.bytes = digest;
+}
 
 #[unsafe(no_mangle)]
 pub extern "C" fn ffi_ripemd160(bytes: &[u8], found: &mut KeyName)

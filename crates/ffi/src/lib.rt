@@ -2,12 +2,15 @@
 #![tactic(auto)]
 
 mod answers;
+mod bits;
 mod block_rules;
 mod blocks;
+mod division;
 mod evaluating;
 mod exports;
 mod front;
 mod hashes;
+mod headers;
 mod kept;
 mod kept_tx;
 mod kept_utxo;
@@ -15,6 +18,7 @@ mod known;
 pub mod laws;
 mod listing;
 mod lookups;
+mod merkle;
 mod named;
 mod parsed;
 mod parsed_known;
@@ -32,6 +36,7 @@ mod unboxed;
 mod utxo;
 mod utxo_calls;
 mod utxo_slot;
+mod work;
 
 pub use answers::{
     Answer, Heights, Made, Name, Place, ShownCoin, ShownHeader, ShownSpent, ShownTip,

@@ -75,6 +75,19 @@ pub struct ShownBlock {
     pub reason: u32,
 }
 
+/// A header by itself: its id, and its fields.
+#[repr(C)]
+#[derive(Clone, Copy, Drop)]
+pub struct HeaderRow {
+    pub id: Name,
+    pub parent: Name,
+    pub root: Name,
+    pub version: i32,
+    pub time: u32,
+    pub bits: u32,
+    pub nonce: u32,
+}
+
 /// An opcode: its number, all its bytes, and how many of these it pushes, which are the last.
 #[repr(C)]
 #[derive(Clone, Copy, Drop)]
@@ -119,6 +132,13 @@ pub struct ShownFlags {
 #[derive(Clone, Copy, Drop)]
 pub struct KeyName {
     pub bytes: [u8; 20],
+}
+
+/// A number of 256 bits, its lowest byte first, as Bitcoin Core's `uint256` is kept.
+#[repr(C)]
+#[derive(Clone, Copy, Drop)]
+pub struct Uint256 {
+    pub bytes: [u8; 32],
 }
 
 /// The digits of an id.

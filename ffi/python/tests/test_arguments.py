@@ -242,6 +242,9 @@ ROWS = [
     row("consensus.block_place", data=BLOCK, height=("number32", 1), median=("number32", 1), now=("number", 1),
         heights=("heights", (1, 1, 1, 1))),
     row("consensus.records", data=("bytes", b"")), row("consensus.subsidy", height=("number32", 1)),
+    row("consensus.header", data=("bytes", encoding.write_header(HEADER))), row("consensus.merkle", ids=("ids", [])),
+    row("consensus.read_bits", bits=("number32", 0)), row("consensus.work", bits=("number32", 0)),
+    row("consensus.write_bits", value=("number256", 0), negative=("flag", False)),
     row("consensus.meets_target", id=ID), row("consensus.median", times=("times", [1])),
     row("consensus.opcodes", script=("bytes", b"\x51")), row("consensus.script", data=("bytes", b"\x51")),
     row("consensus.p2sh_sigops", input=("bytes", b""), spent=("bytes", b"")),
@@ -268,6 +271,7 @@ ROWS = [
     row("consensus.Triple.of_lines", lines=("list of lines", [TRIPLE.line])), row("consensus.Table", text=("lines", "")),
     row("consensus.Table.add", key=("bytes", b""), signature=("bytes", b""), digest=ID),
     row("consensus.Table.has", key=("bytes", b""), signature=("bytes", b""), digest=ID),
+    row("consensus.sha1", data=DATA), row("consensus.sha256", data=DATA),
     row("consensus.ripemd160", data=DATA), row("consensus.hash160", data=DATA), row("consensus.double_sha", data=DATA),
     row("consensus.show", id=ID), row("consensus.read_id", text=("text", "00" * 32)),
     row("chainstate.show", id=ID), row("chainstate.read_id", text=("digits", "00" * 32)),
@@ -359,7 +363,7 @@ INSIDE = {"addresses.base58", "addresses.data_of", "chainstate.reply_of"} | {
 }  # fmt: skip
 #: What calls answer, and who is called: nobody makes them.
 ANSWERS = {
-    "consensus.Transaction", "consensus.Input", "consensus.Output", "consensus.Parts", "consensus.Block",
+    "consensus.Transaction", "consensus.Input", "consensus.Output", "consensus.Parts", "consensus.Block", "consensus.Header",
     "consensus.Opcode", "consensus.Script", "consensus.Refused", "consensus.Triple", "consensus.ScriptError", "chainstate.Coin",
     "chainstate.Tip", "chainstate.Reply", "chainstate.Reply.check", "bench.Entry", "encoding.EncodingError",
     "encoding.Merkle", "encoding.Target",

@@ -9,13 +9,14 @@ from typing import Dict, List, Tuple
 
 import bitcoin
 from bitcoin.core import (
-    CBlock, CheckProofOfWork, CheckProofOfWorkError, CheckTransaction, CheckTransactionError, COutPoint, CTransaction,
-    CTxIn, CTxOut, Hash, Hash160, b2lx, lx, x,
+    CBlock, CBlockHeader, CheckProofOfWork, CheckProofOfWorkError, CheckTransaction, CheckTransactionError, COutPoint,
+    CTransaction, CTxIn, CTxOut, Hash, Hash160, b2lx, lx, x,
 )  # fmt: skip
 from bitcoin.core._bignum import bn2vch, vch2bn
 from bitcoin.core.contrib.ripemd160 import ripemd160
 from bitcoin.core.script import CScript, CScriptInvalidError, RawSignatureHash
 from bitcoin.core.scripteval import SCRIPT_VERIFY_P2SH, VerifyScript, VerifyScriptError, EvalScriptError
+from bitcoin.core.serialize import compact_from_uint256, uint256_from_compact
 
 from wakotehu import consensus as c, encoding as e
 from wakotehu.errors import BadTable
@@ -179,6 +180,89 @@ class BesideBitcoinlib(unittest.TestCase):
                 expected = False
             self.assertEqual((found.target, c.meets_target(found.id)), (expected, expected))
 
+    def test_headers(self) -> None:
+        rng = random.Random(SEED + 10)
+        for n in range(COUNT):
+            made = CBlockHeader(
+                rng.randrange(-(1 << 31), 1 << 31), rng.randbytes(32), rng.randbytes(32), *(rng.randrange(1 << 32) for _ in range(3))
+            )  # fmt: skip
+            raw = made.serialize()
+            found = c.header(raw)
+            self.assertEqual((found.id, found.parent, found.root), (made.GetHash(), made.hashPrevBlock, made.hashMerkleRoot))
+            fields = made.nVersion, made.nTime, made.nBits, made.nNonce
+            self.assertEqual((found.version, found.time, found.bits, found.nonce), fields, (SEED, n))
+            other = e.read_header(raw)
+            self.assertEqual({name: getattr(other, name) for name in vars(found)}, vars(found), (SEED, n))
+        for wrong, fault in ((b"", "short"), (raw[:79], "short"), (raw + b"\0", "extra"), (raw * 2, "extra")):
+            with self.assertRaises(c.Refused) as caught:
+                c.header(wrong)
+            self.assertEqual(caught.exception.fault, fault)
+
+    def test_merkle_roots(self) -> None:
+        """Where the last ids are those of a level's odd one, the list that repeats them has the same root (CVE-2012-2459)."""
+        rng, twins = random.Random(SEED + 11), 0
+        for n in range(COUNT // 10):
+            ids = [rng.randbytes(32) for _ in range(rng.randrange(1, 40))]
+            part = len(ids) & -len(ids)  # the last ids that some level has as its odd one
+            tail = ids[len(ids) - rng.choice((0, part, rng.randrange(len(ids) + 1))) :]
+            found = c.merkle(ids + tail)
+            self.assertEqual(found, e.merkle(ids + tail), (SEED, n))
+            self.assertEqual(found.root, CBlock.build_merkle_tree_from_txids(ids + tail)[-1], (SEED, n))
+            self.assertFalse(c.merkle(ids).twin, (SEED, n))
+            if part == len(tail) < len(ids):
+                self.assertEqual(found, c.merkle(ids)._replace(twin=True), (SEED, n))
+                twins += 1
+        self.assertGreater(twins, COUNT // 1000)
+        self.assertEqual(c.merkle([]), (bytes(32), False))
+        # Block 100,000 of the main network.
+        ids = [lx(id) for id in (
+            "8c14f0db3df150123e6f3dbbf30f8b955a8249b62ac1d1ff16284aefa3d06d87",
+            "fff2525b8931402dd09222c50775608f75787bd2b87e56995a7bdd30f79702c4",
+            "6359f0868171b1d194cbee1af2f16ea598ae8fad666d9b012c8ed2b79a236ec4",
+            "e9a66845e05d5abc0ad04ec80f774a7e585c6e8db975962d069a522137b80c1d",
+        )]  # fmt: skip
+        root = "f3e94742aca4b5ef85488dc37c06c3282295ffec960994b2c0d5ac2a25a95766"
+        self.assertEqual((c.show(c.merkle(ids).root), c.merkle(ids).twin), (root, False))
+
+    def test_bits(self) -> None:
+        """bitcoinlib knows neither the sign nor an overflow."""
+        rng = random.Random(SEED + 12)
+        words = (0, 1, 0x7F, 0x80, 0xFF, 0x100, 0x7FFF, 0x8000, 0xFFFF, 0x10000, 0x7FFFFF)
+        edges = [size << 24 | sign | word for size in range(256) for sign in (0, 0x800000) for word in words]
+        others = [rng.randrange(38) << 24 | rng.randrange(1 << 24) >> rng.randrange(24) for _ in range(COUNT)]
+        for bits in edges + others:
+            found = c.read_bits(bits)
+            self.assertEqual(found, e.read_bits(bits), (SEED, hex(bits)))
+            self.assertEqual(c.work(bits), e.work(bits), (SEED, hex(bits)))
+            if not bits & 0x800000:
+                value = uint256_from_compact(bits)
+                self.assertEqual((found.value, found.overflow), (value % (1 << 256), value >= 1 << 256), (SEED, hex(bits)))
+        values = [(1 << n) + less for n in range(256) for less in (-1, 0, 1)] + [(1 << 256) - 1]
+        for value in values + [rng.randrange(1 << 256) >> rng.randrange(256) for _ in range(COUNT)]:
+            bits = c.write_bits(value)
+            self.assertEqual(bits, compact_from_uint256(value), (SEED, hex(value)))
+            self.assertEqual(c.write_bits(value, True), e.write_bits(value, True), (SEED, hex(value)))
+            self.assertEqual(c.write_bits(c.read_bits(bits).value), bits, (SEED, hex(value)))
+
+    def test_bits_of_bitcoin_core(self) -> None:
+        """The values of its own tests (`bignum_SetCompact`), and the work of two genesis blocks."""
+        for bits in (0, 0x00123456, 0x01003456, 0x02000056, 0x03000000, 0x04000000, 0x00923456, 0x01803456, 0x02800056,
+                     0x03800000, 0x04800000):  # fmt: skip
+            self.assertEqual(c.read_bits(bits), (0, False, False), hex(bits))
+            self.assertEqual(c.work(bits), 0, hex(bits))
+        for bits, value, negative, again in (
+            (0x01123456, 0x12, False, 0x01120000), (0x01FEDCBA, 0x7E, True, 0x01FE0000),
+            (0x02123456, 0x1234, False, 0x02123400), (0x03123456, 0x123456, False, 0x03123456),
+            (0x04123456, 0x12345600, False, 0x04123456), (0x04923456, 0x12345600, True, 0x04923456),
+            (0x05009234, 0x92340000, False, 0x05009234), (0x20123456, 0x123456 << 232, False, 0x20123456),
+        ):  # fmt: skip
+            self.assertEqual(c.read_bits(bits), (value, negative, False), hex(bits))
+            self.assertEqual(c.write_bits(value, negative), again, hex(bits))
+        self.assertEqual((c.write_bits(0), c.write_bits(0, True), c.write_bits(0x80)), (0, 0, 0x02008000))
+        self.assertEqual((c.read_bits(0xFF123456).negative, c.read_bits(0xFF123456).overflow), (False, True))
+        self.assertEqual((c.work(0x1D00FFFF), c.work(0x207FFFFF)), (0x100010001, 2))
+        self.assertEqual((c.work(0x01010000), c.work(0x1D80FFFF), c.work(0xFF123456)), (1 << 255, 0, 0))
+
     def test_opcodes_and_kinds(self) -> None:
         """Counts of signature operations are compared plainly alone: bitcoinlib's accurate count fails at a number."""
         rng, cut = random.Random(SEED + 4), 0
@@ -217,6 +301,8 @@ class BesideBitcoinlib(unittest.TestCase):
         for n in range(COUNT):
             raw, id = rng.randbytes(rng.randrange(150)), rng.randbytes(32)
             self.assertEqual((c.double_sha(raw), c.hash160(raw)), (Hash(raw), Hash160(raw)), (SEED, n))
+            self.assertEqual(c.sha256(raw), hashlib.sha256(raw).digest(), (SEED, n))
+            self.assertEqual(c.sha1(raw), hashlib.sha1(raw).digest(), (SEED, n))
             self.assertEqual(c.show(id), b2lx(id))
             self.assertEqual(c.read_id(b2lx(id)), lx(b2lx(id)))
             if n % 20 == 0:

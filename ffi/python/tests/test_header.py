@@ -27,7 +27,7 @@ STRUCTS: Dict[str, Any] = {
     "wakotehu_transaction": consensus._Transaction, "wakotehu_input": consensus._Input,
     "wakotehu_output": consensus._Output, "wakotehu_start": consensus._Start, "wakotehu_block_shown": consensus._Block,
     "wakotehu_made": consensus._Made, "wakotehu_opcode": consensus._Opcode, "wakotehu_script_shown": consensus._Script,
-    "wakotehu_flags": consensus._Flags, "wakotehu_evaluated": consensus._Evaluated,
+    "wakotehu_header_fields": consensus._Header, "wakotehu_flags": consensus._Flags, "wakotehu_evaluated": consensus._Evaluated,
 }  # fmt: skip
 SCALARS: Dict[str, Any] = {
     "uint8_t": ctypes.c_uint8, "uint32_t": ctypes.c_uint32, "uint64_t": ctypes.c_uint64, "int32_t": ctypes.c_int32,

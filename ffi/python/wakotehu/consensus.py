@@ -15,6 +15,7 @@ from typing import Any, Callable, Iterable, Iterator, List, NamedTuple, NoReturn
 
 from . import arguments, spelling
 from .arguments import id_of, number, octets, signed
+from .encoding import Merkle, Target
 from .errors import REASONS, BadTable, Busy, Closed, Error, TooMany
 from .library import Heights, library
 
@@ -100,6 +101,13 @@ class _Block(ctypes.Structure):
     ]  # fmt: skip
 
 
+class _Header(ctypes.Structure):
+    _fields_ = [
+        ("id", c_uint8 * 32), ("parent", c_uint8 * 32), ("root", c_uint8 * 32), ("version", ctypes.c_int32),
+        ("time", c_uint32), ("bits", c_uint32), ("nonce", c_uint32),
+    ]  # fmt: skip
+
+
 class _Made(ctypes.Structure):
     _fields_ = [("id", c_uint8 * 32), ("outputs", c_uint64)]
 
@@ -139,6 +147,11 @@ _CALLS = {
         POINTER(c_uint64),
     ],
     "read_block": _BYTES + [POINTER(_Block)],
+    "read_header": _BYTES + [POINTER(_Header)],
+    "merkle": [c_char_p, c_size_t, c_char_p] + _YES,
+    "read_bits": [c_uint32, c_char_p] + _YES + _YES,
+    "write_bits": [c_char_p, c_uint32, POINTER(c_uint32)],
+    "work": [c_uint32, c_char_p],
     "block_size": _BYTES + [POINTER(c_uint64)],
     "block_transactions": _BYTES + [POINTER(_Made), c_size_t, POINTER(c_uint64)],
     "block_place": _BYTES + [c_uint32, c_uint32, c_uint64, POINTER(Heights), POINTER(c_uint32)],
@@ -178,6 +191,8 @@ _CALLS = {
     "table_read": _BYTES + [POINTER(c_uint64)],
     "table_has": _BYTES * 3 + [c_char_p, POINTER(c_uint64)] + _YES,
     "table_add": _BYTES + [POINTER(c_size_t)] + _BYTES * 2 + [c_char_p],
+    "sha1": _BYTES + [c_char_p],
+    "sha256": _BYTES + [c_char_p],
     "ripemd160": _BYTES + [c_char_p],
     "hash160": _BYTES + [c_char_p],
     "double_sha": _BYTES + [c_char_p],
@@ -372,6 +387,58 @@ def block(data: bytes) -> Block:
         bytes(f.id), bytes(f.parent), bytes(f.root), bytes(f.merkle), f.size, f.transactions, f.version, f.time,
         f.bits, f.nonce, bool(f.twin), bool(f.target), REASONS[f.reason],
     )  # fmt: skip
+
+
+@dataclass(frozen=True)
+class Header:
+    """A header by itself: its id, and its fields."""
+
+    id: bytes
+    parent: bytes
+    root: bytes
+    version: int
+    time: int
+    bits: int
+    nonce: int
+
+
+def header(data: bytes) -> Header:
+    """The header that these 80 bytes are."""
+    f = _Header()
+    _call("read_header", *_sized(data), f)
+    return Header(bytes(f.id), bytes(f.parent), bytes(f.root), f.version, f.time, f.bits, f.nonce)
+
+
+def merkle(ids: Sequence[bytes]) -> Merkle:
+    """The root of the Merkle tree over ids, 32 zero bytes of none, and whether another list of ids has it too (Bitcoin
+    Core's `ComputeMerkleRoot`, whose `mutated` is `twin`)."""
+    rows, root, twin = [id_of(id, "ids") for id in arguments.sequence(ids, "ids")], ctypes.create_string_buffer(32), c_uint32()
+    _call("merkle", b"".join(rows), len(rows), root, twin)
+    return Merkle(root.raw, bool(twin.value))
+
+
+def read_bits(bits: int) -> Target:
+    """The target that the bits of a header spell, and its faults (Bitcoin Core's `SetCompact`). Of a number that has more
+    bits than 256 the value is the lowest of them."""
+    value, negative, overflow = ctypes.create_string_buffer(32), c_uint32(), c_uint32()
+    _call("read_bits", number(bits, "bits"), value, negative, overflow)
+    return Target(int.from_bytes(value.raw, "little"), bool(negative.value), bool(overflow.value))
+
+
+def write_bits(value: int, negative: bool = False) -> int:
+    """The bits of a target (Bitcoin Core's `GetCompact`), which are its three highest bytes, or two where a third would
+    begin with the sign's bit; what is below them is lost."""
+    found, target = c_uint32(), number(value, "value", 256).to_bytes(32, "little")
+    _call("write_bits", target, int(arguments.flag(negative, "negative")), found)
+    return found.value
+
+
+def work(bits: int) -> int:
+    """How many hashes a header with these bits takes on average, as a chain's work is counted (Bitcoin Core's
+    `GetBlockProof`): 0 where the target is 0, or has a fault."""
+    found = ctypes.create_string_buffer(32)
+    _call("work", number(bits, "bits"), found)
+    return int.from_bytes(found.raw, "little")
 
 
 def block_size(data: bytes) -> int:
@@ -848,6 +915,16 @@ def _hash(name: str, data: bytes, length: int) -> bytes:
     found = ctypes.create_string_buffer(length)
     _call(name, *_sized(data), found)
     return found.raw
+
+
+def sha1(data: bytes) -> bytes:
+    """SHA-1."""
+    return _hash("sha1", data, 20)
+
+
+def sha256(data: bytes) -> bytes:
+    """SHA-256."""
+    return _hash("sha256", data, 32)
 
 
 def ripemd160(data: bytes) -> bytes:
