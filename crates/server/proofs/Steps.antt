@@ -5,8 +5,9 @@ use Rattle.std.proofs.Common.{◌≡◌, ◌∙◌, ℕ, suc, ◌+◌, ◌<◌, 
 use Rattle.std.proofs.lemmas.List.{length-take-le, map-append, take_more}
 use Rattle.json.specs.Json.{Json, array, object, Items, no_items, item, no_members, member}
 use Rattle.chain.specs.declared.entry.Entry.{Entry}
-use Rattle.serving.specs.Answers.{coin_members, coin_items, step_members, step_items}
+use Rattle.serving.specs.Answers.{coin_members, coin_items, spent_members, spent_items, step_members, step_items}
 use Rattle.serving.specs.declared.answer.CoinAt.{CoinAt}
+use Rattle.serving.specs.declared.answer.SpentCoin.{SpentCoin}
 use Rattle.serving.specs.declared.answer.Step.{Step}
 use Rattle.serving.specs.declared.refusal.Refusal.TheVariants as refusal
 use Rattle.serving.specs.declared.request_id.RequestId.{RequestId}
@@ -35,6 +36,10 @@ next_step first n number es e texts text lt is at are made =
 pub coins_are : (rows : List CoinAt) → coin_items rows ≡ items (map (λ row. object (coin_members row)) rows)
 coins_are [] = refl
 coins_are (row ∷ rows) = ap (λ (rest : Items). item (object (coin_members row)) rest) (coins_are rows)
+
+pub spent_are : (rows : List SpentCoin) → spent_items rows ≡ items (map (λ row. object (spent_members row)) rows)
+spent_are [] = refl
+spent_are (row ∷ rows) = ap (λ (rest : Items). item (object (spent_members row)) rest) (spent_are rows)
 
 pub steps_are : (steps : List Step) → step_items steps ≡ items (map (λ step. object (step_members step)) steps)
 steps_are [] = refl

@@ -9,12 +9,12 @@ ghost use Rattle.server.specs.inside.Answering.{IsAnswered, IsPlaceTold, IsReadT
 use crate::board::Board;
 use crate::learning::{learnt, wanted};
 use crate::listing::steps;
-use crate::looking;
 use crate::saved::saved;
 use crate::spelled::output_of;
 use crate::submitting::{Submission, judged, submitted};
 use crate::turn::{Ask, Blank, Turn};
 use crate::words::Facts;
+use crate::{looking, undo_told};
 use arrayvec::ArrayString;
 use crossbeam_channel::{Receiver, Sender};
 use hash::Id;
@@ -124,6 +124,7 @@ where
         Call::Hash(height) => looking::hash(rt, board, blank, height, seat),
         Call::Ancestor(id, height) => looking::ancestor(rt, board, blank, &id, height, seat),
         Call::Fork(id, other) => looking::fork(rt, board, blank, &id, &other, seat),
+        Call::Spent(id) => undo_told::spent(rt, node, blank, &id, seat),
         Call::Coins(above, most) => looking::coins(alloc, blank, above.as_ref(), most, seat),
     }
 }

@@ -22,6 +22,7 @@ mod submitting;
 mod tally;
 mod telling;
 mod turn;
+mod undo_told;
 mod waste;
 mod words;
 

@@ -2,6 +2,7 @@
 use Rattle.std.specs.Prelude.{◌≡◌, ◌≢◌, ◌⊎◌, ◌<◌, ◌^◌, ◌-◌, ℕ, ℤ, suc, pos, negsuc, [], Bool, min, map, true, false, List, length, codes, Option, Some, None, Result, Ok, Err, IfOk, IfErr, IfSome, MatchOption, Vec}
 use Rattle.std.specs.Fmt.{signed_decimal}
 use Rattle.std.specs.Global.{Global}
+use Rattle.std.specs.List.{flat_map}
 use mathlib.Core.List.{IsPrefix}
 use Rattle.hex.specs.Hex.{encode_lower}
 use Rattle.json.specs.Json.{Json, null, array, number, object, Members, no_members, member}
@@ -33,7 +34,7 @@ use Rattle.node.specs.declared.fault.Fault.{Fault}
 use Rattle.node.specs.declared.fault.Fault.TheVariants.{Memory, Owed, Closed, Unknown}
 use Rattle.node.specs.Calls.{IsSubmitAnswer, IsWriteFault, IsJudgeFault, IsReadFault, IsClosedFault}
 use Rattle.node.specs.Pass.{Pass, IsLater, IsWrite, IsRead, IsListed, AreCoins}
-use Rattle.node.specs.Told.{best_in, output_at, reply_to, shown_tips}
+use Rattle.node.specs.Told.{best_in, output_at, reply_to, shown_tips, undo_in}
 use Rattle.serving.specs.Answers.{contradicted_members, text, count, line_of, response, refusal_members, tip_items, wants_members}
 use Rattle.serving.specs.declared.refusal.Refusal.{Refusal}
 use Rattle.serving.specs.declared.refusal.Refusal.TheVariants as refusal
@@ -43,7 +44,7 @@ use Rattle.serving.specs.declared.request_id.RequestId.{RequestId}
 use Rattle.server.specs.Spelled.{unspent_members}
 use Rattle.server.specs.inside.Brought.{AreBrought, is_kept}
 use Rattle.server.specs.inside.Learning.{AreLearnt}
-use Rattle.server.specs.inside.Listing.{coin_json, items, AreSteps}
+use Rattle.server.specs.inside.Listing.{coin_json, items, spent_json, AreSteps}
 use Rattle.server.specs.declared.turn.Ask.{Ask}
 use Rattle.server.specs.declared.turn.Ask.TheVariants as ask
 
@@ -101,6 +102,11 @@ tips_answer tips = member (codes "answer") (array (tip_items tips.items)) no_mem
 
 abbrev pub coins_answer : Vec (OutPoint × Coin) Global → Members
 coins_answer coins = member (codes "answer") (array (items (map coin_json coins.items))) no_members
+
+-- what the transactions of a block but the first spent, in the order of their inputs
+abbrev pub spent_answer : Option (List (List Coin)) → Members
+spent_answer None = member (codes "answer") null no_members
+spent_answer (Some txs) = member (codes "answer") (array (items (map spent_json (flat_map (λ coins. coins) txs)))) no_members
 
 abbrev pub no_answer : Id → Members
 no_answer id = no_members
@@ -174,6 +180,10 @@ IsReadTold IsAnswer IsFault ms i line = IsTold IsAnswer IsFault (λ r. TellsRead
 abbrev pub AreCoinsTold : Pass → Pass → Option OutPoint → ℕ → RequestId → List ℕ → Type 0
 AreCoinsTold p q above most i line =
     IsReadTold (λ at (coins : Vec (OutPoint × Coin) Global). AreCoins p q above (min most 1000) at coins.items) (IsReadFault p q) coins_answer i line
+
+-- the coins that an active block spent
+abbrev pub IsSpentTold : Pass → Pass → Id → RequestId → List ℕ → Type 0
+IsSpentTold p q id i line = IsReadTold (IsRead p q (undo_in p.origin id)) (IsReadFault p q) spent_answer i line
 
 -- the line tells steps that the node listed, of which the first has this number, or its fault
 abbrev pub TellsSteps : ℕ → RequestId → Result (Stamped (Vec Entry Global)) Fault → List ℕ → Type 0
@@ -286,6 +296,7 @@ IsCallTold (call.Header id) p q i line = IsLookTold p q (λ t best. TellsHeader 
 IsCallTold (call.Hash height) p q i line = IsLookTold p q (λ t best. TellsHash (ancestor_of t best height) i) i line
 IsCallTold (call.Ancestor id height) p q i line = IsLookTold p q (λ t best. TellsHash (ancestor_of t id height) i) i line
 IsCallTold (call.Fork id other) p q i line = IsLookTold p q (λ t best. TellsHash (fork_of t id other) i) i line
+IsCallTold (call.Spent id) p q i line = IsSpentTold p q id i line
 IsCallTold (call.Coins above most) p q i line = AreCoinsTold p q above most i line
 IsCallTold (call.Wait steps) p q i line = IsReadTold (IsRead p q (best_in p.origin)) (IsClosedFault p q) no_answer i line
 IsCallTold call.Note p q i line = IsPlaceTold p q i line

@@ -19,6 +19,11 @@ coin_json (at, coin) = object (text (codes "txid") (hex_of_id at.id) (count (cod
     (member (codes "value") (number (signed_decimal coin.value)) (text (codes "script") (encode_lower coin.script)
     (count (codes "height") coin.height (member (codes "coinbase") (boolean coin.coinbase) no_members))))))
 
+-- a coin that a block spent
+abbrev pub spent_json : Coin → Json
+spent_json coin = object (member (codes "value") (number (signed_decimal coin.value)) (text (codes "script") (encode_lower coin.script)
+    (count (codes "height") coin.height (member (codes "coinbase") (boolean coin.coinbase) no_members))))
+
 -- the elements of an array
 abbrev pub items : List Json → Items
 items [] = no_items
