@@ -122,6 +122,10 @@ abbrev pub spent_items : List SpentCoin → Items
 spent_items [] = no_items
 spent_items (c ∷ cs) = item (object (spent_members c)) (spent_items cs)
 
+-- in the order of the block's inputs
+abbrev pub spent_list_members : List SpentCoin → Members
+spent_list_members coins = member (codes "answer") (array (spent_items coins)) no_members
+
 -- bytes as a word of a table's line: in hexadecimal, `-` for none
 abbrev pub word : List ℕ → List ℕ
 word [] = codes "-"
@@ -157,7 +161,7 @@ answer_members answer.Absent = member (codes "answer") null no_members
 answer_members (answer.Block bytes) = text (codes "answer") (encode_lower bytes.now) no_members
 answer_members (answer.Header h) = member (codes "answer") (object (header_members h)) no_members
 answer_members (answer.Coins coins) = member (codes "answer") (array (coin_items coins.now)) no_members
-answer_members (answer.Spent coins) = member (codes "answer") (array (spent_items coins.now)) no_members
+answer_members (answer.Spent coins) = spent_list_members coins.now
 answer_members (answer.Wants triples) = wants_members triples.now
 answer_members (answer.Contradicted t) = contradicted_members t.now
 

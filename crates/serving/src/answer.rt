@@ -6,7 +6,7 @@ ghost use Rattle.json.specs.Token.{key, string, boolean};
 ghost use Rattle.std.specs.List.{flat_map};
 ghost use Rattle.hex.specs.Hex.{encode_lower};
 ghost use Rattle.json.specs.Json.{no_members};
-ghost use Rattle.serving.specs.Answers.{Adds, answer_members, coin_members, header_members, spent_members, tip_members, output_members, step_members, info_members, members, now_of, status_name, wants_members, contradicted_members};
+ghost use Rattle.serving.specs.Answers.{Adds, answer_members, coin_members, header_members, spent_list_members, spent_members, tip_members, output_members, step_members, info_members, members, now_of, status_name, wants_members, contradicted_members};
 ghost use Rattle.serving.specs.inside.Front.{coin_tokens, line_tokens, spent_tokens, tip_tokens, step_tokens};
 
 use crate::object::Object;
@@ -156,11 +156,7 @@ impl Object {
                 self.coins(alloc, coins)?;
                 self.end_list()
             }
-            Answer::Spent(coins) => {
-                self.begin_list("answer")?;
-                self.spent(alloc, coins)?;
-                self.end_list()
-            }
+            Answer::Spent(coins) => self.spent(alloc, coins),
             Answer::Wants(triples) => self.wants(alloc, triples),
             Answer::Contradicted(triple) => self.contradicted(alloc, triple),
         }
@@ -219,7 +215,16 @@ impl Object {
         self.end()
     }
 
+    /// The coins that a block spent.
     fn spent(&mut self, alloc: Global, coins: &[SpentCoin<'_>]) -> Result<(), AllocError>
+        ensures { Adds result self.old self.new (members (spent_list_members coins.now)) }
+    {
+        self.begin_list("answer")?;
+        self.spent_coins(alloc, coins)?;
+        self.end_list()
+    }
+
+    fn spent_coins(&mut self, alloc: Global, coins: &[SpentCoin<'_>]) -> Result<(), AllocError>
         ensures { Adds result self.old self.new (flat_map spent_tokens coins.now) }
     {
         for coin in coins {

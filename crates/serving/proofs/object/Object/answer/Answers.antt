@@ -1,6 +1,6 @@
 use Rattle.std.proofs.Common.{sym, subst}
 use Rattle.serving.specs.Answers.{Adds, answer_members, members}
-use Rattle.serving.proofs.Joining.{then, coins_closed, spent_closed, tips_closed, steps_closed}
+use Rattle.serving.proofs.Joining.{then, coins_closed, tips_closed, steps_closed}
 use Rattle.serving.proofs.object.Object.answer.Goals as goal
 
 pub returns-in_ok-id-in-Best : goal.returns-in_ok-id-in-Best
@@ -30,10 +30,3 @@ returns-in_ok-coins-in-Coins c =
     (sym c.in-Coins.is)
     (then c.in_ok-begin_list-in-Coins.ensures
     (rw (coins_closed c.in-Coins.coins.now) at (then c.in_ok-coins-in-Coins.ensures c.end_list-in-Coins.ensures)))
-
-pub returns-in_ok-spent-in-Spent : goal.returns-in_ok-spent-in-Spent
-returns-in_ok-spent-in-Spent c =
-    subst (λ answer. Adds c.end_list-in-Spent.result c.args.self.now c.end_list-in-Spent.new.self (members (answer_members answer)))
-    (sym c.in-Spent.is)
-    (then c.in_ok-begin_list-in-Spent.ensures
-    (rw (spent_closed c.in-Spent.coins.now) at (then c.in_ok-spent-in-Spent.ensures c.end_list-in-Spent.ensures)))

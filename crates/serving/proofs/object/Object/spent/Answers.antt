@@ -1,6 +1,6 @@
-use Rattle.std.proofs.Common.{arith}
-use Rattle.std.proofs.lemmas.Grind.{common_steps}
+use Rattle.serving.proofs.Joining.{then, spent_closed}
 use Rattle.serving.proofs.object.Object.spent.Goals as goal
 
-pub loop-coin-preserved : goal.loop-coin-preserved
-loop-coin-preserved c = grind (arith, common_steps)
+pub returns : goal.returns
+returns c =
+    then c.in_ok-begin_list.ensures (rw (spent_closed c.args.coins.now) at (then c.in_ok-spent_coins.ensures c.end_list.ensures))

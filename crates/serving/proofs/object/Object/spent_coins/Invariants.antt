@@ -1,7 +1,7 @@
 use Rattle.std.proofs.Common.{◌≡◌, ◌++◌, take}
 use Rattle.std.specs.List.{flat_map}
 use Rattle.serving.specs.inside.Front.{spent_tokens}
-use Rattle.serving.proofs.object.Object.spent.Given as goal
+use Rattle.serving.proofs.object.Object.spent_coins.Given as goal
 
 abbrev pub invariant-loop-coin : goal.invariant-loop-coin
 invariant-loop-coin l = record {
