@@ -38,7 +38,7 @@ STRAY = f"02{'ab' * 32} 3006020101020101 {'cd' * 32}"
 #: So many commands of a scenario with spends make the chain below these.
 CHAIN = 100
 #: What seat 1 is asked.
-BESIDE = ["told", "note", "journal", "wait", "getblock", "getblockheader", "getblockhash", "getancestor", "getfork", "coins"]
+BESIDE = ["told", "note", "journal", "wait", "getblock", "getblockheader", "getblockhash", "getancestor", "getfork", "getspent", "coins"]
 TELLS = {-32001: "memory", -32002: "owed"}
 
 
@@ -78,6 +78,7 @@ def lines_of(regchain):
     ask("getblockhash", seat=1, height=1)
     ask("getancestor", seat=1, id=blocks["q3"][0], height=1)
     ask("getfork", seat=1, id=blocks["p2"][0], other=blocks["q3"][0])
+    ask("getspent", seat=1, id=blocks["b1"][0])
     ask("coins", seat=1, most=5)
     ask("info")
     lines.append(b"no request\n")

@@ -83,6 +83,8 @@ WRONG: list[tuple[str, dict[str, object], str]] = [
     ("getfork", {"id": 1, "other": HASH}, "id"),
     ("getfork", {"id": HASH}, "other"),
     ("getfork", {"id": HASH, "other": "g" * 64}, "other"),
+    ("getspent", {}, "id"),
+    ("getspent", {"id": HASH[1:]}, "id"),
     ("coins", {}, "most"),
     ("coins", {"most": 1, "txid": HASH}, "n"),
     ("coins", {"most": 1, "txid": 1, "n": 0}, "txid"),

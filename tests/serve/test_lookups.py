@@ -106,6 +106,17 @@ class Lookups(ProgramTest):
         self.served.ask("told", seat=1, **{"from": 2})
         self.branches(5, "genesis", "b1", "p2", "q2", "q3")
 
+    def test_spent(self) -> None:
+        """Blocks of a coinbase alone spent nothing; of those that aren't active there is no answer."""
+        self.assertEqual(self.ask("getspent", 0, id=GENESIS), [])
+        for name in ("b1", "p2", "q2"):
+            self.submit(name)
+        for name, spent in (("b1", []), ("p2", []), ("q2", None), ("q3", None)):
+            self.assertEqual(self.ask("getspent", 3, id=self.names.ids[name]), spent)
+        self.submit("q3", 2)
+        for name, spent in (("b1", []), ("p2", None), ("q2", []), ("q3", [])):
+            self.assertEqual(self.ask("getspent", 4, id=self.names.ids[name]), spent)
+
     def test_a_refused_block_is_none(self) -> None:
         """Bytes that were submitted and refused: they are in the history, and no block of it."""
         orphan = self.names.data["q2"]

@@ -220,7 +220,7 @@ SEAT = [
     ("gettxout", {"txid": ID, "n": ("number32", 0)}), ("gettxouts", {"outpoints": ("outpoints", [(bytes(32), 0)])}),
     ("getbestblockhash", {}), ("getchaintips", {}), ("getblock", {"id": ID}), ("getblockheader", {"id": ID}),
     ("getblockhash", {"height": ("number", 0)}), ("getancestor", {"id": ID, "height": ("number", 0)}),
-    ("getfork", {"one": ID, "other": ID}), ("moved", {"before": ID}),
+    ("getfork", {"one": ID, "other": ID}), ("getspent", {"id": ID}), ("moved", {"before": ID}),
     ("coins", {"above": ("optional outpoint", (bytes(32), 0)), "most": ("number", 1)}), ("wait", {"after": ("number", 0)}),
     ("journal", {"first": ("step", 1), "last": ("number", 9)}), ("note", {}), ("told", {"other": ("own", None)}),
 ]  # fmt: skip

@@ -12,8 +12,8 @@ import unittest
 import wakotehu
 from blocks import NOW, Maker, block_id, spend
 from fakes import fake
-from wakotehu import AsyncNode, Node, Stamped, errors, served
-from wakotehu.encoding import GENESIS
+from wakotehu import AsyncNode, Coin, Node, Stamped, errors, served
+from wakotehu.encoding import GENESIS, Input, Output, Transaction
 from wakotehu.node import program_path
 
 ROOT = os.path.realpath(os.path.join(os.path.dirname(__file__), "..", "..", ".."))
@@ -292,6 +292,28 @@ class NodeTest(unittest.TestCase):
                 seat.moved(id)
             self.assertEqual(caught.exception.at, 7)
 
+    def test_what_blocks_spent(self):
+        """Two coinbases, and an output of the first of them in the same block; the block is left, and comes back."""
+        node = self.node(seats=2)
+        maker = Maker()
+        chain = maker.chain(102)
+        first, second = (maker.coinbases[block_id(chain[place])] for place in (0, 1))
+        one = spend(first.id, 0, 4_000_000_000, b"", b"\x52")
+        both = Transaction(1, [Input(one.id, 0, b"", 0), Input(second.id, 0, b"", 0)], [Output(1, b"\x51")], 0)
+        spending = maker.block(block_id(chain[-1]), [one, both])
+        for block in (*chain, spending):
+            node.seat(0).submit(block, NOW)
+        made = [Coin(5_000_000_000, b"\x51", 1, True), Coin(4_000_000_000, b"\x52", 103, False), Coin(5_000_000_000, b"\x51", 2, True)]
+        seat = node.seat(1)
+        self.assertEqual(seat.getspent(block_id(spending)), Stamped(103, made))
+        self.assertEqual(seat.getspent(block_id(chain[-1])), Stamped(103, []))
+        self.assertEqual(seat.getspent(GENESIS.id), Stamped(103, []))
+        self.assertEqual(seat.getspent(bytes(32)), Stamped(103, None))
+        node.seat(0).invalidate(block_id(spending))
+        self.assertEqual(seat.getspent(block_id(spending)), Stamped(104, None))
+        node.seat(0).reconsider(block_id(spending))
+        self.assertEqual(seat.getspent(block_id(spending)), Stamped(105, made))
+
     def test_what_moved(self):
         """After each step, from each best block before it: what is left of that branch, and what is new of the best one's."""
         node = self.node(seats=1)
@@ -516,6 +538,7 @@ class AsyncNodeTest(unittest.IsolatedAsyncioTestCase):
             self.assertEqual(await second.moved(ids[2]), Stamped(8, (ids[2], [], ids[3:])))
             with self.assertRaises(errors.NotFound):
                 await second.moved(bytes(32))
+            self.assertEqual(await second.getspent(best.value), Stamped(8, []))
             self.assertEqual(len((await second.coins(most=3)).value), 3)
             self.assertEqual(await asyncio.gather(first.wait(8), second.precious(best.value)), [9, Stamped(9, "done")])
             many = await asyncio.gather(*(seat.getbestblockhash() for seat in node.seats * 200))

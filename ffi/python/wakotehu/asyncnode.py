@@ -14,7 +14,7 @@ from .chainstate import BlockHeader, Coin, Moved, Reply, Tip
 from .served import (
     BEST, FINISH, INFO, KEPT, MOST, NOTE, SAVE, TIMEOUT, TIPS, UNDER_WAY, Call, Entry, Info, Opening,
     Stamped, UnspentOutput, Wanted, ancestor_of, block_of, checked, coins_above, died, dry_run, entries, fork_of, hash_at,
-    header_of, longer_than, mark, moving, outcome, output, outputs, read_answer, request, submission, told, verdicts,
+    header_of, longer_than, mark, moving, outcome, output, outputs, read_answer, request, spent_by, submission, told, verdicts,
 )  # fmt: skip
 from .signatures import Verify
 
@@ -349,6 +349,11 @@ class AsyncSeat:
     async def getfork(self, one: bytes, other: bytes) -> Stamped[Optional[bytes]]:
         """As `Seat.getfork`."""
         answered: Stamped[Optional[bytes]] = await self._ask(fork_of(one, other))
+        return answered
+
+    async def getspent(self, id: bytes) -> Stamped[Optional[List[Coin]]]:
+        """As `Seat.getspent`."""
+        answered: Stamped[Optional[List[Coin]]] = await self._ask(spent_by(id))
         return answered
 
     async def moved(self, before: bytes) -> Stamped[Moved]:

@@ -17,7 +17,7 @@ from .pipe import Pipe
 from .served import (
     BEST, FINISH, INFO, NOTE, SAVE, TIMEOUT, TIPS, UNDER_WAY, Call, Entry, Info, Opening, Stamped,
     UnspentOutput, Wanted, ancestor_of, block_of, checked, coins_above, dry_run, entries, fork_of, hash_at, header_of,
-    learning, longer_than, mark, moving, output, outputs, program_path, submission, told, verdicts,
+    learning, longer_than, mark, moving, output, outputs, program_path, spent_by, submission, told, verdicts,
 )  # fmt: skip
 from .signatures import Verify
 
@@ -136,6 +136,12 @@ class Seat:
     def getfork(self, one: bytes, other: bytes) -> Stamped[Optional[bytes]]:
         """The id of the last block that the branches of two blocks share. None where `getblock` has one of them not."""
         answered: Stamped[Optional[bytes]] = self._ask(fork_of(one, other))
+        return answered
+
+    def getspent(self, id: bytes) -> Stamped[Optional[List[Coin]]]:
+        """The coins that a block of the active branch spent, in the order of its inputs, as `Chainstate.spent`; None of another
+        block. It takes its turn among submissions."""
+        answered: Stamped[Optional[List[Coin]]] = self._ask(spent_by(id))
         return answered
 
     def moved(self, before: bytes) -> Stamped[Moved]:

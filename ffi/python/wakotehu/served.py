@@ -153,6 +153,14 @@ def _read_hash(result: Dict[str, Any]) -> Stamped[Optional[bytes]]:
     return Stamped(result["at"], None if found is None else _read_id(found["hash"]))
 
 
+def _read_spent(result: Dict[str, Any]) -> Stamped[Optional[List[Coin]]]:
+    found = result["answer"]
+    if found is None:
+        return Stamped(result["at"], None)
+    coins = [Coin(it["value"], bytes.fromhex(it["script"]), it["height"], it["coinbase"]) for it in found]
+    return Stamped(result["at"], coins)
+
+
 def _read_coins(result: Dict[str, Any]) -> Stamped[List[Tuple[bytes, int, Coin]]]:
     coins = [
         (_read_id(it["txid"]), it["n"], Coin(it["value"], bytes.fromhex(it["script"]), it["height"], it["coinbase"]))
@@ -243,6 +251,10 @@ def ancestor_of(id: bytes, height: int) -> Call:
 
 def fork_of(one: bytes, other: bytes) -> Call:
     return Call("getfork", f',"id":"{show(id_of(one, "one"))}","other":"{show(id_of(other, "other"))}"', _read_hash)
+
+
+def spent_by(id: bytes) -> Call:
+    return Call("getspent", f',"id":"{show(id_of(id))}"', _read_spent)
 
 
 def coins_above(above: Optional[Tuple[bytes, int]], most: int) -> Call:
