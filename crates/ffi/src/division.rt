@@ -88,7 +88,7 @@ impl Wide {
         }
     }
 
-    /// The even number above.
+    /// Twice the number, and one.
     fn twice_and_one(&self) -> Wide
         requires { 2 * value self.now + 1 < 2 ^ 256 }
         ensures { value result ≡ 2 * value self.now + 1 }

@@ -8,7 +8,7 @@ use crate::bits::target_of;
 use crate::division::{Wide, share};
 use crate::shown::Uint256;
 
-/// How many hashes meet the target of these bits on average, 0 where it is 0 or has a fault.
+/// How many hashes it takes on average to meet the target of these bits, 0 where it is 0 or has a fault.
 #[unsafe(no_mangle)]
 pub extern "C" fn ffi_work(bits: u32, found: &mut Uint256)
     ensures { number found.new.bytes ≡ work bits }
