@@ -345,7 +345,7 @@ ROWS = [
 #: Modules that are no part of this: what takes the arguments, exceptions, what a server has, and what it is started by; what
 #: needs a database (tests/replicas has its arguments); what pytest calls (test_testing has its own).
 OTHER = {
-    "ahead", "arguments", "asyncreplica", "benches", "errors", "following", "history", "index", "mempool", "nodebench", "pipe",
+    "ahead", "arguments", "asyncreplica", "benches", "errors", "explain", "following", "history", "index", "mempool", "nodebench", "pipe",
     "processor", "replica", "replicabench", "replicacommand", "replicalog", "replication", "server", "stage", "testing", "vectors",
     "version", "__main__",
 }  # fmt: skip
@@ -357,7 +357,7 @@ INSIDE = {"addresses.base58", "addresses.data_of", "chainstate.reply_of"} | {
 } | {
     f"served.{name}" for name in (
         "Call", "Opening", "Wanted", "verdicts", "learning", "submission", "dry_run", "mark", "output", "outputs", "block_of", "header_of", "hash_at", "coins_above", "longer_than",
-        "ancestor_of", "fork_of", "moving", "entries", "told", "request", "checked", "outcome",
+        "ancestor_of", "fork_of", "spent_by", "moving", "entries", "told", "request", "checked", "outcome",
         "died", "read_answer",
     )
 }  # fmt: skip

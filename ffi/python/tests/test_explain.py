@@ -11,6 +11,7 @@ from servers import PROGRAM, ROOT
 from test_node_by_need import Mined, then
 from wakotehu import Node, secp256k1
 from wakotehu.consensus import ScriptError
+from wakotehu.encoding import read_block, write_block
 from wakotehu.explain import NotExplained, explain
 
 #: A script, and what spends it.
@@ -76,6 +77,78 @@ class ExplainTest(unittest.TestCase):
                 lines = [it for it in steps if kind == "datadir" or it not in ("valid", "invalid")]
                 found = explain(folder, len(lines))
                 self.assertEqual(found, ("blk-bad-inputs", 2, 0, ScriptError.EVAL_FALSE))
+
+    def saved(self, blocks, kind="save", **more):
+        """A folder in which these were submitted, with the reason of each."""
+        with Node(1, program=PROGRAM, **{kind: self.folder}, **more) as node:
+            return [node.seat(0).try_submit(block, NOW).value.reason for block in blocks]
+
+    def test_which_block_a_branch_has(self):
+        """Of two under one header the one that is kept; on a branch beside the active one; and one without its parent."""
+        maker = Maker(FAILING[ScriptError.OP_RETURN][0])
+        chain = maker.chain(101)
+        paid, other = (maker.coinbases[block_id(chain[place])] for place in (0, 1))
+        bad = [spend(it.id, 0, 50, b"") for it in (paid, other)]
+        beside = maker.chain(2, block_id(chain[98]), b"\x01")
+        # Its last transaction twice: the same root, so the same header, and another block.
+        twin = maker.block(block_id(beside[-1]), [bad[0], bad[1]], b"\x02")
+        read = read_block(twin)
+        mutated = write_block(read._replace(transactions=[*read.transactions, read.transactions[-1]]))
+        self.assertEqual(block_id(mutated), block_id(twin))
+        reasons = self.saved([*chain, *beside, mutated, twin])
+        self.assertEqual(reasons[-2:], ["bad-txns-duplicate", "blk-bad-inputs"])
+        self.assertEqual(explain(self.folder, 105), ("blk-bad-inputs", 1, 0, ScriptError.OP_RETURN))
+        self.assertEqual(explain(self.folder, 104).reason, "bad-txns-duplicate")
+        with open(os.path.join(self.folder, "blocks.blk"), "rb") as file:
+            data = file.read()
+        with open(os.path.join(self.folder, "blocks.blk"), "wb") as file:
+            file.write(data[: -len(twin) - 8])
+        with self.assertRaisesRegex(NotExplained, "fewer blocks"):
+            explain(self.folder, 105)
+
+    def test_a_block_without_its_parent(self):
+        maker = Maker()
+        chain = maker.chain(3)
+        self.assertEqual(self.saved([chain[0], chain[2]])[-1], "prev-blk-not-found")
+        with self.assertRaisesRegex(NotExplained, "isn't there"):
+            explain(self.folder, 2)
+
+    def test_the_heights_of_a_run(self):
+        """Before its height CHECKLOCKTIMEVERIFY does nothing, and the script is cut short of its element."""
+        maker = Maker(b"\xb1\x75")
+        chain = maker.chain(101)
+        bad = maker.block(block_id(chain[-1]), [spend(maker.coinbases[block_id(chain[0])].id, 0, 50, b"\x4f")])
+        for bip65, error in ((102, ScriptError.NEGATIVE_LOCKTIME), (103, ScriptError.EVAL_FALSE)):
+            with self.subTest(bip65):
+                reasons = self.saved([*chain, bad], heights=(1, bip65, 1, 1))
+                self.assertEqual(reasons[-1], "blk-bad-inputs")
+                self.assertEqual(explain(self.folder, 102), ("blk-bad-inputs", 1, 0, error))
+
+    def test_a_signature_without_a_verdict(self):
+        """By need, of a block that was never tried; with a table such a signature isn't valid."""
+        mined = Mined(102)
+        late = mined.maker.block(block_id(mined.chain[100]), [mined.spend(0)], b"\x01")
+        for more, says in (({"verify": secp256k1}, None), ({}, ("blk-bad-inputs", 1, 0, ScriptError.EVAL_FALSE))):
+            with self.subTest(says=says), tempfile.TemporaryDirectory() as room:
+                self.folder = os.path.join(room, "saved")
+                self.saved([*mined.chain, late], "datadir", **more)
+                if says:
+                    self.assertEqual(explain(self.folder, 103), says)
+                else:
+                    with self.assertRaisesRegex(NotExplained, "no verdict"):
+                        explain(self.folder, 103)
+
+    def test_a_save_that_was_cut_off(self):
+        """The journal was renamed, and the blocks weren't yet."""
+        maker = Maker(FAILING[ScriptError.OP_RETURN][0])
+        chain = maker.chain(101)
+        bad = maker.block(block_id(chain[-1]), [spend(maker.coinbases[block_id(chain[0])].id, 0, 50, b"")])
+        self.saved([*chain, bad])
+        blocks = os.path.join(self.folder, "blocks.blk")
+        os.rename(blocks, f"{blocks}.new")
+        with open(blocks, "wb") as file:
+            file.write(b"")
+        self.assertEqual(explain(self.folder, 102), ("blk-bad-inputs", 1, 0, ScriptError.OP_RETURN))
 
     def test_as_a_command(self):
         maker = Maker()

@@ -1,5 +1,5 @@
 """Says which script of a block failed, and how: `python3 -m wakotehu.explain FOLDER LINE`, for a submission that is answered
-`blk-bad-inputs`, as `regchain audit --explain` names its line.
+`blk-bad-inputs`. LINE is the step's number in the folder's journal or log, as `regchain audit` prints it.
 
 The block's branch is connected to a set of coins of its own, so this asks neither the chainstate nor the definition.
 """
@@ -17,12 +17,14 @@ from .coinset import CoinSet, Fault
 from .consensus import ScriptError, Triple
 from .encoding import GENESIS, double_sha, read_block, read_header, write_transaction
 from .errors import Error, Wants
-from .history import LOG, steps_of
+from .history import LOG, VERDICTS, steps_of
 
 #: Of so many blocks the median time past is the median.
 SPAN = 11
 #: The replies to blocks that are kept.
 KEPT = ("accepted", "inconclusive")
+#: The files of verdicts.
+TABLES = {"invalid.txt": False, "table.txt": True}
 
 
 class NotExplained(Error):
@@ -53,28 +55,48 @@ class Submission(NamedTuple):
 
 class SavedRun:
     """What a folder has, that `--save` or `--datadir` named: the submission of each line, if it is one, the heights of soft
-    forks, and the signatures that are valid. `docs/PROGRAM.md` says what its files have."""
+    forks, and the verdicts on signatures. `docs/PROGRAM.md` says what its files have.
+
+    Where the run had a table, each signature that this doesn't have is invalid (`has_table`); by need there are verdicts.
+    """
 
     def __init__(self, folder: str) -> None:
         self.folder = folder
-        self.valid = {Triple.of_line(it).line for it in self._lines("table.txt") if it.split() and not it.startswith(b"#")}
+        self.verdicts = {line: is_valid for name, is_valid in TABLES.items() for line in self._table(name)}
+        is_log = os.path.exists(os.path.join(folder, LOG))
+        self.has_table = not self._exists("invalid.txt") and (not is_log or self._exists("table.txt"))
         self.heights = read_heights([int(it) for it in (self._read("heights.txt") or b"1,1,1,1").decode("ascii").split(",")])
-        self.lines = list(self._log() if os.path.exists(os.path.join(folder, LOG)) else self._journal())
+        self.lines = list(self._log() if is_log else self._journal())
+
+    def _path(self, name: str) -> str:
+        """A file's path. Once the journal is renamed, a file that was saved with it may still end in `.new`."""
+        new = os.path.join(self.folder, f"{name}.new")
+        is_saved = not os.path.exists(os.path.join(self.folder, "journal.txt.new")) and os.path.exists(new)
+        return new if is_saved else os.path.join(self.folder, name)
+
+    def _exists(self, name: str) -> bool:
+        return os.path.exists(self._path(name))
 
     def _read(self, name: str) -> bytes:
-        path = os.path.join(self.folder, name)
-        if not os.path.exists(path):
+        if not self._exists(name):
             return b""
-        with open(path, "rb") as file:
+        with open(self._path(name), "rb") as file:
             return file.read()
 
     def _lines(self, name: str) -> List[bytes]:
         return self._read(name).splitlines()
 
+    def _table(self, name: str) -> List[bytes]:
+        return [Triple.of_line(it).line for it in self._lines(name) if it.split() and not it.startswith(b"#")]
+
+    def verdict(self, triple: Triple) -> Optional[bool]:
+        """Whether a signature is valid, None where the run has no verdict on it."""
+        return self.verdicts.get(triple.line, False if self.has_table else None)
+
     def _log(self) -> Iterator[Optional[Submission]]:
         for step in steps_of(os.path.join(self.folder, LOG)):
-            if step.command == "valid":
-                self.valid.add(Triple.of_line(step.rest).line)
+            if step.command in VERDICTS:
+                self.verdicts[Triple.of_line(step.rest).line] = step.command == "valid"
             yield Submission(unhexlify(step.rest), step.reply in KEPT) if step.command == "submit" else None
 
     def _journal(self) -> Iterator[Optional[Submission]]:
@@ -133,12 +155,20 @@ class Connecting:
                 fault = self.coins.connect(block, height, self.medians[-1], self.medians, self.run.heights)
                 break
             except Wants as wants:
-                for triple in wants.triples:
-                    self.coins.learn(triple, triple.line in self.run.valid)
+                self._learn(wants.triples)
         if fault is None:
             self.times.append(read_header(block[:80]).time)
             self.medians.append(consensus.median(self.times[-SPAN:]))
         return fault
+
+    def _learn(self, triples: Sequence[Triple]) -> None:
+        """Takes the run's verdicts. On some it may have none, behind an input that is refused."""
+        verdicts = [(triple, self.run.verdict(triple)) for triple in triples]
+        known = [(triple, is_valid) for triple, is_valid in verdicts if is_valid is not None]
+        if not known:
+            raise NotExplained("the run has no verdict on a signature of this branch")
+        for triple, is_valid in known:
+            self.coins.learn(triple, is_valid)
 
     def failure(self, block: bytes, fault: Fault) -> Optional[ScriptError]:
         """Why the scripts of the input fail that a fault names."""
