@@ -130,6 +130,7 @@ uint32_t ffi_tx_verify_input_known(struct slot *slot, struct slot *set, const st
 
 _Static_assert(sizeof(struct slot) == 16 && offsetof(struct slot, at) == 8, "as Slot, TxSlot and UtxoSlot of crates/ffi");
 _Static_assert(sizeof(struct question) == 64 && offsetof(struct question, flags) == 56, "as InputQuestion");
+_Static_assert(sizeof(struct known_question) == 32 && offsetof(struct known_question, flags) == 24, "as KnownQuestion");
 _Static_assert(sizeof(struct told) == 24 && offsetof(struct told, error) == 16, "as InputTold");
 _Static_assert(sizeof(struct all_asked) == 72 && offsetof(struct all_asked, flags) == 64, "as AllQuestion");
 _Static_assert(sizeof(struct all_told) == 32 && offsetof(struct all_told, error) == 24, "as AllTold");
@@ -848,7 +849,7 @@ const char *wakotehu_code_text(wakotehu_code code) {
     case WAKOTEHU_SHORT: return "the bytes end too early";
     case WAKOTEHU_LONG_FORM: return "a count is spelled in more bytes than it needs";
     case WAKOTEHU_TOO_LARGE: return "a count is above 33554432";
-    case WAKOTEHU_EXTRA: return "bytes stand after the block or the transaction";
+    case WAKOTEHU_EXTRA: return "bytes stand after the block, the header or the transaction";
     case WAKOTEHU_NO_INPUT: return "there is no such input";
     case WAKOTEHU_MISMATCH: return "another number of them is wanted";
     case WAKOTEHU_FOREIGN: return "there is no record";

@@ -51,7 +51,7 @@ typedef enum {
     WAKOTEHU_SHORT = 20,    /* the bytes end too early */
     WAKOTEHU_LONG_FORM = 21, /* a count is spelled in more bytes than it needs */
     WAKOTEHU_TOO_LARGE = 22, /* a count is above 33,554,432 */
-    WAKOTEHU_EXTRA = 23,    /* bytes stand behind the block, the header or the transaction */
+    WAKOTEHU_EXTRA = 23,    /* bytes stand after the block, the header or the transaction */
     WAKOTEHU_NO_INPUT = 24, /* the transaction has no input of this number */
     WAKOTEHU_MISMATCH = 25, /* another number of them is wanted */
     WAKOTEHU_FOREIGN = 26,  /* no record of a blk file, and not zero bytes alone */
@@ -141,7 +141,7 @@ wakotehu_code wakotehu_open(wakotehu_handle *handle, const wakotehu_heights *hei
 
 /* The same, but no table says which signatures are valid: they are verified by need. A command whose scripts ask for
  * signatures of which nothing is known is answered WAKOTEHU_WANTS. It is no command then: nothing has changed. The caller
- * asks by wakotehu_wants or wakotehu_want_lines for all at which a script of the block stops, finds out whether they are
+ * asks by wakotehu_wants or wakotehu_want_lines for all at which a script of a tried block stops, finds out whether they are
  * valid, hands the verdicts in by wakotehu_learn, and makes the same call again. No verdict changes a reply that was
  * given. */
 wakotehu_code wakotehu_open_by_need(wakotehu_handle *handle, const wakotehu_heights *heights);
@@ -592,8 +592,8 @@ typedef uint64_t wakotehu_tx;
 
 /* Reads a transaction and writes its handle. Where `used` is null, all the bytes have to be the transaction:
  * WAKOTEHU_EXTRA where some stand behind it (Bitcoin Core's TX_SIZE_MISMATCH). Else it is the one at the front, and `used`
- * becomes the number of its bytes. The bytes are copied. What the digests of its inputs share is hashed once, here (Bitcoin
- * Core's PrecomputedTransactionData). Each transaction has to be given back by wakotehu_tx_free. */
+ * becomes the number of its bytes. The bytes are copied. Of one with 32 inputs or more the hasher's states at every 16th
+ * input are kept (as Bitcoin Core's PrecomputedTransactionData for segregated witness), which shorten later digests. Each transaction has to be given back by wakotehu_tx_free. */
 wakotehu_code wakotehu_tx_read(const uint8_t *bytes, size_t length, size_t *used, wakotehu_tx *tx);
 
 /* wakotehu_verify_script for an input of a transaction that was read. */

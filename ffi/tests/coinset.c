@@ -213,6 +213,26 @@ static void misused(void) {
     EXPECT(wakotehu_close(chain) == WAKOTEHU_OK);
 }
 
+/* What a call on a set is answered while the set is in use. */
+struct inside {
+    wakotehu_tx tx;
+    wakotehu_utxo known;
+    int calls;
+};
+
+static int while_in_use(void *context, const uint8_t *id, uint32_t index, const wakotehu_coin *coin, const uint8_t *script) {
+    struct inside *inside = context;
+    uint32_t error = 99;
+    uint64_t line = 0, needed = 0;
+    (void)id, (void)index, (void)coin, (void)script;
+    inside->calls++;
+    EXPECT(wakotehu_tx_verify_input_known(inside->tx, inside->known, 1, equals_two, 2, 0, &error, NULL, 0, &needed) == WAKOTEHU_BUSY);
+    EXPECT(error == 99);
+    /* The transaction isn't in use any more. */
+    EXPECT(wakotehu_tx_verify_input(inside->tx, 1, equals_two, 2, 0, NULL, 0, NULL, 0, &line, &error, NULL, 0, &needed) == WAKOTEHU_OK);
+    return 0;
+}
+
 /* An input of a transaction that was read, by what a set has learnt: asked for, refused and accepted, each allocation refused
  * in turn; and misuse. */
 static void judged(void) {
@@ -232,12 +252,22 @@ static void judged(void) {
     REFUSED(known, &before, wakotehu_tx_verify_input_known(tx, known, 0, spent, sizeof spent, 0, &error, line, sizeof line, &needed),
             WAKOTEHU_UNKNOWN);
     EXPECT(error == 99 && needed == 70 && memcmp(line, "\n51 - ", 6) == 0);
+    for (size_t room = 0; room < 70; room += 69) {
+        char mark[70] = "unwritten";
+        needed = 0;
+        EXPECT(wakotehu_tx_verify_input_known(tx, known, 0, spent, sizeof spent, 0, &error, room ? mark : NULL, room, &needed) == WAKOTEHU_TOO_SMALL);
+        EXPECT(error == 99 && needed == 70 && strcmp(mark, "unwritten") == 0);
+    }
     EXPECT(wakotehu_signature_digest(it.bytes + it.tx, it.tx_length, 0, spent, sizeof spent, 1, digest) == WAKOTEHU_OK);
     EXPECT(wakotehu_utxo_learn(known, spent + 1, 1, NULL, 0, digest, 1) == WAKOTEHU_OK);
     REFUSED(known, &before, wakotehu_tx_verify_input_known(tx, known, 0, spent, sizeof spent, 0, &error, NULL, 0, &needed),
             WAKOTEHU_OK);
     EXPECT(error == WAKOTEHU_SCRIPT_OK);
     EXPECT(wakotehu_tx_verify_input_known(tx, known, 1, equals_two, 2, 0, &error, NULL, 0, &needed) == WAKOTEHU_OK && error == 0);
+    struct inside inside = {tx, known, 0};
+    wakotehu_coin one_coin = {.value = 1, .script = 1};
+    EXPECT(wakotehu_utxo_put(known, digest, 0, &one_coin, spent) == WAKOTEHU_OK);
+    EXPECT(wakotehu_utxo_coins(known, while_in_use, &inside) == WAKOTEHU_OK && inside.calls == 1);
     error = 99;
     EXPECT(wakotehu_tx_verify_input_known(tx, known, 2, spent, 3, 0, &error, NULL, 0, &needed) == WAKOTEHU_NO_INPUT);
     EXPECT(wakotehu_tx_verify_input_known(tx, known, 0, NULL, 1, 0, &error, NULL, 0, &needed) == WAKOTEHU_NULL);

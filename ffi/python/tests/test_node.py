@@ -313,6 +313,10 @@ class NodeTest(unittest.TestCase):
         self.assertEqual(seat.getspent(block_id(spending)), Stamped(104, None))
         node.seat(0).reconsider(block_id(spending))
         self.assertEqual(seat.getspent(block_id(spending)), Stamped(105, made))
+        # Below the highest 288 blocks a coin's undo is kept packed.
+        for block in maker.chain(300, block_id(spending)):
+            node.seat(0).submit(block, NOW)
+        self.assertEqual(seat.getspent(block_id(spending)), Stamped(405, made))
 
     def test_what_moved(self):
         """After each step, from each best block before it: what is left of that branch, and what is new of the best one's."""

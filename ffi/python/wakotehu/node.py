@@ -128,13 +128,13 @@ class Seat:
         return answered
 
     def getancestor(self, id: bytes, height: int) -> Stamped[Optional[bytes]]:
-        """The id of the block at a height of a block's branch, on which it is itself. None above it, and where `getblock` has
-        none."""
+        """The id of the block at a height of a block's branch, on which it is itself. None above that block, or if `getblock`
+        doesn't have it."""
         answered: Stamped[Optional[bytes]] = self._ask(ancestor_of(id, height))
         return answered
 
     def getfork(self, one: bytes, other: bytes) -> Stamped[Optional[bytes]]:
-        """The id of the last block that the branches of two blocks share. None where `getblock` has one of them not."""
+        """The id of the last block that the branches of two blocks share. None if `getblock` doesn't have both."""
         answered: Stamped[Optional[bytes]] = self._ask(fork_of(one, other))
         return answered
 
