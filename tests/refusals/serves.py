@@ -102,9 +102,11 @@ def by_need(regchain, room):
         table = file.read()
     names = serving.Names(room, scenario.definitions)
     commands = [names.request(command.words, command.now) for command in serving.commands_of(scenario)]
+    blocks = [bytes.fromhex(params["block"]) for method, params in commands[CHAIN:] if method == "submit"]
+    spent = [("getspent", {"id": serving.double_sha(block[:80])[::-1].hex()}) for block in blocks]
     asked = [
         *commands, ("wants", {}), ("learn", {"valid": table, "invalid": STRAY}), ("learn", {"valid": STRAY, "invalid": ""}),
-        *commands[CHAIN:], ("journal", {"from": CHAIN, "to": 999}),
+        *commands[CHAIN:], *spent, ("journal", {"from": CHAIN, "to": 999}),
     ]  # fmt: skip
     lines = [request(number, method, seat=0, **params) for number, (method, params) in enumerate(asked)]
     lines.append(request(len(lines), "finish"))
@@ -285,8 +287,9 @@ class Sweep:
                 return f"answers {answer}"
             told = answer["result"].get("answer")
             number = answer["id"]
-            method = json.loads(self.lines[number])["method"] if isinstance(number, int) else ""
-            if method in BESIDE:
+            asked = json.loads(self.lines[number]) if isinstance(number, int) else {}
+            method = asked.get("method", "")
+            if method in BESIDE and asked["params"]["seat"] == 1:
                 continue  # seat 1 runs beside seat 0
             if method == "finish":
                 if folder and BY_NEED not in self.kind.more and answer["result"]["at"] != len(journal):

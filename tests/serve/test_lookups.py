@@ -10,6 +10,15 @@ from serving import GENESIS, Names, Served, request, play
 
 DEFINITIONS = "block b1 genesis\nblock p2 b1\nblock q2 b1\nblock q3 q2\nblock q4 q3\n"
 PARENTS = dict(line.split()[1:3] for line in DEFINITIONS.splitlines())
+SPENDS = """chain c 100 genesis
+tx A 1 0
+in c1.cb:0 -
+out 3000000000 5175
+tx B 1 0
+in A:0 5151
+out 1000000000 51
+block d c100 A B
+"""
 NOW = 1_296_688_602
 SUBSIDY = 5_000_000_000
 
@@ -116,6 +125,21 @@ class Lookups(ProgramTest):
         self.submit("q3", 2)
         for name, spent in (("b1", []), ("p2", None), ("q2", []), ("q3", [])):
             self.assertEqual(self.ask("getspent", 4, id=self.names.ids[name]), spent)
+
+    def test_spent_coins(self) -> None:
+        """A coinbase's coin, and an output of the same block's earlier transaction."""
+        names = Names(self.folder, SPENDS)
+        for number, name in enumerate((*(f"c{number}" for number in range(1, 101)), "d"), 1):
+            result = self.served.ask("submit", seat=0, block=names.data[name].hex(), now=NOW)
+            self.assertEqual(result, {"at": number, "answer": "accepted"})
+        spent = [
+            {"value": SUBSIDY, "script": "51", "height": 1, "coinbase": True},
+            {"value": 3_000_000_000, "script": "5175", "height": 101, "coinbase": False},
+        ]
+        self.assertEqual(self.ask("getspent", 101, id=names.ids["d"]), spent)
+        self.assertEqual(self.ask("getspent", 101, id=names.ids["c100"]), [])
+        self.served.ask("invalidate", seat=0, id=names.ids["d"])
+        self.assertIsNone(self.ask("getspent", 102, id=names.ids["d"]))
 
     def test_a_refused_block_is_none(self) -> None:
         """Bytes that were submitted and refused: they are in the history, and no block of it."""
