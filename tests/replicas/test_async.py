@@ -69,6 +69,11 @@ class AsyncReplicaTest(ReplicaTest):
                 self.assertEqual((await seat.getbestblockhash()).value, block_id(other))
                 self.assertEqual((await seat.reconsider(block_id(second))).value, "done")
                 self.assertEqual((await seat.getblockhash(2)).value, block_id(second))
+                self.assertEqual((await seat.getancestor(block_id(second), 1)).value, block_id(first))
+                self.assertEqual((await seat.getfork(block_id(other), block_id(second))).value, GENESIS.id)
+                self.assertEqual((await seat.getspent(block_id(second))).value, [])
+                moved = await seat.moved(block_id(other))
+                self.assertEqual(moved.value, (GENESIS.id, [block_id(other)], [block_id(first), block_id(second)]))
                 coins = [maker.coinbases[block_id(block)].id for block in (first, second, other)]
                 found = await seat.gettxouts([(coin, 0) for coin in coins])
                 self.assertEqual([(own.at, own.value is not None) for own in found], [(7, True), (7, True), (7, False)])

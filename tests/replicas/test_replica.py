@@ -43,6 +43,11 @@ class Calls(ReplicaTest):
         self.assertEqual(wallet.getbestblockhash().value, block_id(other))
         self.assertEqual(wallet.reconsider(block_id(second)).value, "done")
         self.assertEqual(wallet.getblockhash(2).value, block_id(second))
+        self.assertEqual(wallet.getancestor(block_id(second), 1).value, block_id(first))
+        self.assertEqual(wallet.getfork(block_id(other), block_id(second)).value, GENESIS.id)
+        self.assertEqual((wallet.getspent(block_id(second)).value, wallet.getspent(block_id(other)).value), ([], None))
+        moved = wallet.moved(block_id(other))
+        self.assertEqual((moved.at, moved.value), (7, (GENESIS.id, [block_id(other)], [block_id(first), block_id(second)])))
         coins = [maker.coinbases[block_id(block)].id for block in (first, second, other)]
         found = wallet.gettxouts([(coin, 0) for coin in coins])
         self.assertEqual([(own.at, own.value is not None) for own in found], [(7, True), (7, True), (7, False)])

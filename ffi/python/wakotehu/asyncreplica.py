@@ -11,7 +11,7 @@ from uuid import UUID
 
 from . import errors
 from .arguments import Path, number
-from .chainstate import BlockHeader, Coin, Reply, Tip
+from .chainstate import BlockHeader, Coin, Moved, Reply, Tip
 from .replica import Placed, Replica, ReplicaSeat, Status, late
 from .replicalog import Command, Setting
 from .replication import Watch, Write
@@ -117,6 +117,22 @@ class AsyncReplicaSeat:
     async def getblockhash(self, height: int) -> Placed[Optional[bytes]]:
         """As `ReplicaSeat.getblockhash`."""
         return await self._run(lambda: self._seat.getblockhash(height))
+
+    async def getancestor(self, id: bytes, height: int) -> Placed[Optional[bytes]]:
+        """As `ReplicaSeat.getancestor`."""
+        return await self._run(lambda: self._seat.getancestor(id, height))
+
+    async def getfork(self, one: bytes, other: bytes) -> Placed[Optional[bytes]]:
+        """As `ReplicaSeat.getfork`."""
+        return await self._run(lambda: self._seat.getfork(one, other))
+
+    async def getspent(self, id: bytes) -> Placed[Optional[List[Coin]]]:
+        """As `ReplicaSeat.getspent`."""
+        return await self._run(lambda: self._seat.getspent(id))
+
+    async def moved(self, before: bytes) -> Placed[Moved]:
+        """As `ReplicaSeat.moved`."""
+        return await self._run(lambda: self._seat.moved(before))
 
     async def judge(self, block: bytes, now: Optional[int] = None) -> Placed[Reply]:
         """As `ReplicaSeat.judge`."""

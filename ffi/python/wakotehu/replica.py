@@ -14,7 +14,7 @@ from uuid import UUID, uuid4
 
 from . import arguments, errors
 from .arguments import Path, number
-from .chainstate import BlockHeader, Coin, Reply, Tip
+from .chainstate import BlockHeader, Coin, Moved, Reply, Tip
 from .following import Follower
 from .node import Node, Seat
 from .replicalog import Command, Log, Lost
@@ -140,6 +140,22 @@ class ReplicaSeat:
     def getblockhash(self, height: int) -> Placed[Optional[bytes]]:
         """As `Seat.getblockhash`."""
         return self._read(lambda seat: seat.getblockhash(height))
+
+    def getancestor(self, id: bytes, height: int) -> Placed[Optional[bytes]]:
+        """As `Seat.getancestor`."""
+        return self._read(lambda seat: seat.getancestor(id, height))
+
+    def getfork(self, one: bytes, other: bytes) -> Placed[Optional[bytes]]:
+        """As `Seat.getfork`."""
+        return self._read(lambda seat: seat.getfork(one, other))
+
+    def getspent(self, id: bytes) -> Placed[Optional[List[Coin]]]:
+        """As `Seat.getspent`."""
+        return self._read(lambda seat: seat.getspent(id))
+
+    def moved(self, before: bytes) -> Placed[Moved]:
+        """As `Seat.moved`."""
+        return self._read(lambda seat: seat.moved(before))
 
     def judge(self, block: bytes, now: Optional[int] = None) -> Placed[Reply]:
         """As `Seat.judge`. It has no row; the signatures for which it asks are verified here."""
