@@ -99,7 +99,7 @@ class Lookups(ProgramTest):
                 self.assertEqual(self.ask("getfork", at, id=mine[-1], other=theirs[-1]), {"hash": shared})
 
     def test_branches(self) -> None:
-        """Of all blocks that were brought, whichever branch is active; of others there is none."""
+        """Of all blocks that were brought, whichever branch is active; other ids have no answer."""
         self.branches(0, "genesis")
         for name in ("b1", "p2", "q2"):
             self.submit(name)

@@ -149,8 +149,8 @@ class Seat:
         `NotFound`.
 
         It is read from `getbestblockhash`, whose `at` it has, and from `getfork` and headers, of which none ever changes. So it
-        is one answer for the best block at `at`, also where steps are taken meanwhile. What they do is told by the next call,
-        from that best block: the last of `connected`, or `fork` where that is empty.
+        is one answer for the best block at `at`, also if steps are taken meanwhile. The next call tells what they do, from
+        that best block: the last of `connected`, or `fork` if that is empty.
         """
         asking = moving(before)
         answer: Any = None
