@@ -105,7 +105,7 @@ class RulesTest(Waiting):
         first = self.spends(self.coins[0], to=b"\x00")
         self.send(first)
         error = self.send(self.spends(first.id, COIN - 1))
-        # By knowledge of Bitcoin Core's texts.
+        # Bitcoin Core's text of this fault, from memory; under its relay rules it may find another fault first.
         failed = "mandatory-script-verify-flag-failed (Script evaluated without error but finished with a false/empty top stack element)"
         self.assertEqual((error["code"], error["message"]), (-26, failed))
         script = push(KEYS[0]) + b"\xad\x51"

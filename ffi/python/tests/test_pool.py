@@ -17,7 +17,7 @@ from wakotehu.encoding import (
 )  # fmt: skip
 
 COIN, LAST = 100_000_000, 0xFFFFFFFF
-# What Bitcoin Core says of a script that fails, by knowledge of its texts.
+# Bitcoin Core's text of this fault, from memory; under its relay rules it may find another fault first.
 FAILED = "mandatory-script-verify-flag-failed"
 FALSE = " (Script evaluated without error but finished with a false/empty top stack element)"
 MISSING, LOCKED, CONFLICT = "bad-txns-inputs-missingorspent", "non-BIP68-final", "txn-mempool-conflict"
