@@ -88,8 +88,8 @@ class Signed:
 
 class Early(unittest.TestCase):
     def test_scripts_whose_signatures_the_seat_told(self) -> None:
-        """A script without signatures is run before the lock alone. Three that want one each are run before the lock and under it,
-        where that is told; and, when the seat has told which are valid, once more before the lock, and not under it."""
+        """A script without signatures is run before the lock alone. So are three that want one each: under the lock that is answered, and
+        they aren't run. When the seat has told which are valid, they are run once more before the lock, and not under it."""
         codes = [f"01{number:02x}ac" for number in (1, 2, 3)]
         lines = ["chain c 100 genesis", "tx A 1 0", "in c1.cb:0 -", *(f"out 1000000 {code}" for code in codes), "block b0 c100 A", "tx T 1 0"]
         lines += [f"in A:{it} 09{signature(it)}01" for it in range(3)]
@@ -99,7 +99,7 @@ class Early(unittest.TestCase):
             with self.subTest(workers=workers):
                 given = Played(play("node", text, workers=workers, need=1, wanted=0))
                 self.assertEqual(given.clients["a"][-2:], ["submit b0 = accepted @101", "submit b1 = accepted @105"])
-                self.assertEqual(given.gate, ["gate = met, 10 begun, 10 ended"])
+                self.assertEqual(given.gate, ["gate = met, 7 begun, 7 ended"])
 
 
 class NoBytes(unittest.TestCase):

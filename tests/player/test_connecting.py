@@ -18,6 +18,9 @@ INNER = "0063" + "ae" * 199 + "6851"
 PUSHED = "4ccb" + INNER
 TO_INNER = "a914d3e42b15d60b7a1d8e6dba1833935bcd178674ac87"
 
+# A push of 200 bytes, dropped: with scripts that begin so several threads have enough to run.
+LONG = "4cc8" + "00" * 200 + "75"
+
 MISSING = "bad-txns-inputs-missingorspent"
 
 
@@ -247,7 +250,7 @@ class Scripts(unittest.TestCase):
             coins = tx("Z", ["c2.cb:0"], [(1, "51")] * 100)
             definitions, commands = [f"{COINS}{coins}block z u5 Z\nblock y z\n"], [*CHAIN, "submit z", "submit y"]
             for number, refused in enumerate(drawn[first : first + 100]):
-                coins = tx(f"K{number}", [f"Z:{number}"], [(0, "00" if it else "51") for it in refused])
+                coins = tx(f"K{number}", [f"Z:{number}"], [(0, LONG + ("00" if it else "51")) for it in refused])
                 spends = tx(f"X{number}", [f"K{number}:{place}" for place in range(len(refused))], [(0, "51")])
                 blocks = f"block k{number} z K{number}\nblock x{number} k{number} X{number}\n"
                 definitions.append(coins + spends + blocks)

@@ -8,19 +8,12 @@ from typing import Any
 
 from playing_lists import in_parallel, play
 
+# A script long enough that it is worth starting a thread for one that spends it: eight pushes of 520 bytes, each dropped.
+LONG = ("4d0802" + "00" * 520 + "75") * 8 + "51"
+PAYS = f"out 5000000000 {LONG}\n"
+
 # A chain of 100, and three payments.
-PAYMENTS = """\
-chain c 100 genesis
-tx A 1 0
-in c1.cb:0 -
-out 5000000000 51
-tx B 1 0
-in A:0 -
-out 5000000000 51
-tx C 1 0
-in B:0 -
-out 5000000000 51
-"""
+PAYMENTS = f"chain c 100 genesis\ntx A 1 0\nin c1.cb:0 -\n{PAYS}tx B 1 0\nin A:0 -\n{PAYS}tx C 1 0\nin B:0 -\n{PAYS}"
 
 # A block of three inputs whose scripts are run. Its parent is the best block, so they are run before the lock.
 BEFORE_THE_LOCK = f"{PAYMENTS}block m0 c100 A B C\nclient a\neach c 1 100\nsubmit m0\n"
@@ -90,7 +83,7 @@ class Workers(unittest.TestCase):
             workers, beside = case
             names = [f"P{number}" for number in range(workers)]
             spent = ["c1.cb:0", *(f"{name}:0" for name in names)]
-            payments = "".join(f"tx {name} 1 0\nin {prev} -\nout 5000000000 51\n" for name, prev in zip(names, spent))
+            payments = "".join(f"tx {name} 1 0\nin {prev} -\n{PAYS}" for name, prev in zip(names, spent))
             blocks = ["k", "m0", "m1"] if beside else ["m0"]
             scenario = (
                 f"chain c 100 genesis\n{payments}block k c100\nblock m0 c100 {' '.join(names)}\nblock m1 m0\n"

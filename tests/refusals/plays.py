@@ -28,7 +28,16 @@ APART = scenarios.Scenario(
     f"block f1 genesis pay={SCRIPT}",
     f"submit f1 = accepted @1\ntxout f1.cb:0 = 5000000000 {SCRIPT} height 1 coinbase conf 1 @1\ntips = f1 1 0 active @1",
 )
-TABLE = {it.name: it for it in (*scenarios.NAMED.values(), APART)}
+# Scripts so long that threads are started for them: before the lock, and under it by a reorganisation.
+LONG = 8 * f"4d0802{520 * '00'}75" + "51"
+THREADS = scenarios.Scenario(
+    "long scripts",
+    scenarios.REGTEST,
+    f"chain c 100 genesis\ntx A 1 0\nin c1.cb:0 -\nout 1 {LONG}\nout 2 {LONG}\nout 3 {LONG}\n"
+    "tx B 1 0\nin A:0 -\nin A:1 -\nin A:2 -\nout 1 51\nblock k c100 A\nblock x k B\nblock y k B\nblock z y",
+    "each c 1 100 = accepted @1\nsubmit k = accepted @101\nsubmit x = accepted @102\nsubmit y = inconclusive @103\nsubmit z = accepted @104",
+)
+TABLE = {it.name: it for it in (*scenarios.NAMED.values(), APART, THREADS)}
 
 WRITE = ("submit", "invalidate", "reconsider", "precious")
 

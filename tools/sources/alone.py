@@ -1,15 +1,14 @@
 """Functions judged by the contracts of what they call: a copy of all crates in which every other body and proof is left out."""
 
 import os
+import re
 import shutil
 from typing import Iterable, Iterator, List
 
 from . import repository
-from .edits import Named, name_of, path_of
+from .edits import PROOFS, Copy, Named, function_of, name_of, path_of, text_of
 from .rattle import functions
 
-# Invariants and answers stand for a proof that the kit makes itself; a function that has one of its own has neither.
-PROOFS = ("Answers.antt", "Invariants.antt", "Proof.antt")
 HOLE = """use Rattle.{module}.Statement as stated
 
 pub {name}_spec : {{M : Type 1}} → stated.statement M
@@ -42,6 +41,21 @@ class Laid:
     def lay(self, crate: str, source: str, text: str) -> None:
         with open(f"{self.room}/{crate}/{source}", "w", encoding="utf-8") as file:
             file.write(text)
+
+    def copy_proof(self, crate: str, it: Copy) -> None:
+        """Lays the proof of a function for a copy of it, in whose name its modules stand."""
+        function = function_of(text_of(crate, it.source), it.of)
+        path = path_of(crate, it.source, function) if function else ""
+        above, last, made = path.rpartition("::")[0], path.rpartition("::")[2], it.name.rpartition("::")[2]
+        folder = f"{crate}/proofs/{above.replace('::', '/')}"
+        modules = rf"\b(Rattle\.{crate}\.(?:proofs|specs\.contracts)\.{re.escape(above.replace('::', '.') + '.' * bool(above))}){last}(?=[.\s;]|$)"
+        for name in PROOFS:
+            of, to = f"{repository.ROOT}/crates/{folder}/{last}/{name}", f"{self.room}/{folder}/{made}/{name}"
+            if os.path.exists(of):
+                os.makedirs(os.path.dirname(to), exist_ok=True)
+                text = re.sub(modules, rf"\g<1>{made}", repository.text_of(of))
+                with open(to, "w", encoding="utf-8") as file:
+                    file.write(re.sub(rf"\b{last}_spec\b", f"{made}_spec", text))
 
     def leave_out(self, crate: str, kept: Named) -> None:
         """Takes out every body and proof but those of these functions (source, name)."""

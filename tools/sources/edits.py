@@ -1,8 +1,9 @@
-"""Wrong bodies as files: what each changes, in which function, and which of them can be tried in one check."""
+"""Wrong bodies as files: what each changes, in which function, and how many of them are tried in one check."""
 
 import os
 import re
-from typing import Dict, List, NamedTuple, Optional, Set, Tuple
+from functools import partial
+from typing import Dict, Iterable, List, NamedTuple, Optional, Set, Tuple
 
 from . import repository
 from .rattle import SHOWN, Function, bare, functions, line_of, plain
@@ -10,7 +11,12 @@ from .rattle import SHOWN, Function, bare, functions, line_of, plain
 HERE = f"{repository.ROOT}/wrong"
 # The edits that the gate tries, one CRATE/NAME a line.
 GATE = f"{HERE}/gate.txt"
+# Invariants and answers stand for a proof that the kit makes itself; a function that has one of its own has neither.
+PROOFS = ("Answers.antt", "Invariants.antt", "Proof.antt")
 CONSTANT = re.compile(rf"^{SHOWN}(?:const (?!fn)|static )(\w+)", re.M)
+
+# How many edits and twins one check tries at the most: what it keeps of each takes memory until its end.
+MOST = 240
 
 # The texts of a crate's sources by their names, and functions by their source and name.
 Texts = Dict[str, str]
@@ -205,52 +211,166 @@ def gate() -> List[str]:
     return [line.strip() for line in repository.text_of(GATE).splitlines() if line.strip() and not line.startswith("#")]
 
 
-def names_one(texts: Texts, changed: Named, others: Named) -> bool:
-    """Whether one of the changed functions may call one of the others, by its name."""
-    for source, name in changed:
-        it = function_of(texts.get(source, ""), name)
-        body = texts[source][it.begin : it.end].partition("\n")[2] if it else ""
-        if any(re.search(rf"\b{other.rpartition('::')[2]}\(", body) for _, other in others):
-            return True
-    return False
+class Variant(NamedTuple):
+    """An edit, or its twin."""
+
+    edit: Edit
+    as_twin: bool
+
+    def __str__(self) -> str:
+        return f"{'twin of ' * self.as_twin}{self.edit}"
+
+
+class Copy(NamedTuple):
+    """A function with another name and body, to stand behind the one that it was made of."""
+
+    source: str
+    of: str
+    name: str
+    text: str
+
+
+class Trial(NamedTuple):
+    """A variant in a check: the functions that stand for it, their bodies, and whether they stand in the place of the real ones."""
+
+    variant: Variant
+    functions: Named
+    bodies: List[str]
+    in_place: bool
+
+    def calls(self, other: "Trial") -> bool:
+        """Whether a function of this one may call one that the other has put in the place of a real one."""
+        names = "|".join(name.rpartition("::")[2] for _, name in other.functions)
+        return other.in_place and any(re.search(rf"\b(?:{names})\(", body) for body in self.bodies)
+
+
+def whole_of(text: str, it: Function) -> range:
+    """The places of a function, with the attributes and comments above it."""
+    begin, shown = it.begin, bare(text)
+    while begin:
+        above = text.rfind("\n", 0, begin - 1) + 1
+        if not text[above:begin].strip() or shown[above:begin].rstrip().endswith(("{", "}", ";")):
+            break
+        begin = above
+    return range(begin, it.end)
+
+
+def around(text: str, names: Iterable[str]) -> str:
+    """A text without these functions."""
+    spans = [(it.begin, it.end) for it in map(partial(function_of, text), names) if it]
+    for begin, end in sorted(spans, reverse=True):
+        text = text[:begin] + text[end:]
+    return text
+
+
+def around_all(texts: Texts, changed: Named) -> Texts:
+    return {source: around(text, {name for of, name in changed if of == source}) for source, text in texts.items()}
+
+
+def without_imports(texts: Texts) -> List[str]:
+    return [line for text in texts.values() for line in text.splitlines() if not line.startswith(("use ", "mod "))]
+
+
+def copies(crate: str, texts: Texts, changed: Named, mark: str) -> List[Copy]:
+    """Copies of the changed functions under names of their own; none where one has to keep its name, in the impl of a trait."""
+    made = []
+    for source, name in sorted(changed):
+        it = function_of(texts[source], name)
+        if not it or not path_of(crate, source, it) or (it.block and (it.block.trait or it.block.kind != "impl")):
+            return []
+        whole = whole_of(texts[source], it)
+        head = re.sub(rf"\bfn {it.name}\b", f"fn {it.name}{mark}", texts[source][it.begin : it.end], count=1)
+        made.append(Copy(source, name, name + mark, texts[source][whole.start : it.begin] + head))
+    return made
 
 
 class Batch:
-    """Edits that change different functions, so that one check says of each whether it is refused."""
+    """Edits and twins that one check judges.
 
-    def __init__(self, as_twins: bool, apart: bool) -> None:
-        self.as_twins, self.apart = as_twins, apart
-        self.edits: List[Tuple[Edit, Named]] = []
-        self.texts: Dict[str, Texts] = {}
+    Each stands in functions of its own behind the real ones, whose bodies are left out: so as many as one likes can be judged of
+    one function, and each calls the real ones, by their contracts. A change of more than the texts of functions, or in the impl of
+    a trait, replaces the real text, if no other does.
+    """
+
+    def __init__(self, apart: bool = False) -> None:
+        self.apart = apart
+        self.trials: List[Trial] = []
+        self.copies: Dict[str, List[Copy]] = {}
+        # The texts that stand in the place of real ones, and the functions that name a constant that one of them changes.
+        self.in_place: Dict[str, Texts] = {}
+        self.moved: Dict[str, Named] = {}
 
     def functions(self, crate: str) -> Named:
-        return {it for edit, changed in self.edits if edit.crate == crate for it in changed}
+        return {it for trial in self.trials if trial.variant.edit.crate == crate for it in trial.functions}
 
-    def calls(self, texts: Texts, changed: Named) -> bool:
-        """Whether a function of the batch may call one of these, or one of these one of the batch."""
-        laid = [(self.texts[edit.crate], others) for edit, others in self.edits]
-        return any(names_one(texts, changed, others) or names_one(other, others, changed) for other, others in laid)
+    def crates(self) -> List[str]:
+        return sorted({*self.copies, *self.in_place})
 
-    def takes(self, edit: Edit) -> bool:
-        """Adds an edit, and says whether it could: not where the batch changes a function of its own, or took its text away;
-        and, where they stand apart, not where one of its functions calls one of the batch, or is called by it."""
+    def texts(self, crate: str) -> Texts:
+        """The sources of a crate that the batch changes."""
+        texts = dict(self.in_place.get(crate, {}))
+        for source in {it.source for it in self.copies.get(crate, [])}:
+            text = texts.get(source) or text_of(crate, source)
+            ends = {it.of: whole.end for it in self.copies[crate] for whole in [function_of(text, it.of)] if it.source == source and whole}
+            for of, end in sorted(ends.items(), key=lambda it: -it[1]):
+                behind = "".join(f"\n\n{it.text}" for it in self.copies[crate] if (it.source, it.of) == (source, of))
+                text = text[:end] + behind + text[end:]
+            texts[source] = text
+        return texts
+
+    def takes(self, variant: Variant) -> bool:
+        """Adds a variant, and says whether it could."""
+        crate = variant.edit.crate
+        if len(self.trials) >= MOST:
+            return False
         try:
-            texts, changed = edit.laid(self.texts.get(edit.crate, {}), self.as_twins)
+            texts, changed = variant.edit.laid({}, variant.as_twin)
         except BadEdit:
             return False
-        if changed & self.functions(edit.crate) or (self.apart and self.calls(texts, changed)):
+        old = around_all({source: text_of(crate, source) for source in texts}, changed)
+        new = around_all(texts, changed)
+        made = copies(crate, texts, changed, f"_laid{len(self.trials)}") if old == new else []
+        if not made:
+            return self.takes_in_place(variant, changed, without_imports(old) != without_imports(new))
+        trial = Trial(variant, {(it.source, it.name) for it in made}, [it.text.partition("\n")[2] for it in made], False)
+        if changed & self.moved.get(crate, set()) or not self.fits(trial):
             return False
-        self.edits.append((edit, changed))
-        self.texts[edit.crate] = texts
+        self.trials.append(trial)
+        self.copies.setdefault(crate, []).extend(made)
         return True
 
+    def takes_in_place(self, variant: Variant, changed: Named, moves: bool) -> bool:
+        """The same for one that replaces the real text: not where another does, or where it moves a constant that
+        others read."""
+        crate = variant.edit.crate
+        copied = {(it.source, it.of) for it in self.copies.get(crate, [])}
+        if changed & (self.functions(crate) | (copied if moves else set()) | self.moved.get(crate, set())):
+            return False
+        try:
+            texts, _ = variant.edit.laid(self.in_place.get(crate, {}), variant.as_twin)
+        except BadEdit:
+            return False
+        its = [(texts[source], function_of(texts[source], name)) for source, name in changed if source in texts]
+        trial = Trial(variant, changed, [text[it.begin : it.end].partition("\n")[2] for text, it in its if it], True)
+        if not self.fits(trial):
+            return False
+        self.trials.append(trial)
+        self.in_place[crate] = texts
+        if moves:
+            self.moved.setdefault(crate, set()).update(changed)
+        return True
 
-def batches(edits: List[Edit], as_twins: bool = False, apart: bool = False) -> List[Batch]:
-    """The edits in as few checks as can be, by the order that they come in."""
+    def fits(self, trial: Trial) -> bool:
+        """Whether it may stand here: where the batch's stand apart, none may call another."""
+        return not (self.apart and any(trial.calls(it) or it.calls(trial) for it in self.trials))
+
+
+def batches(variants: Iterable[Variant], apart: bool = False) -> List[Batch]:
+    """The variants in as few checks as can be, by the order that they come in."""
     made: List[Batch] = []
-    for edit in edits:
-        if not any(it.takes(edit) for it in made):
-            one = Batch(as_twins, apart)
-            one.takes(edit)
-            made.append(one)
+    for variant in variants:
+        if not any(it.takes(variant) for it in made):
+            one = Batch(apart)
+            if one.takes(variant):
+                made.append(one)
     return made

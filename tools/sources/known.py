@@ -6,7 +6,7 @@ import subprocess
 from functools import lru_cache
 from typing import Callable, Dict, Iterable, List, Tuple
 
-from . import repository
+from . import repository, seen
 from .edits import HERE, Edit
 
 #: A line for each twin that passed, and for each edit that was refused: CRATE/NAME and the sum.
@@ -30,24 +30,31 @@ def kit() -> bytes:
     return subprocess.run(["rt", "version"], capture_output=True, text=True, check=True).stdout.split("logic")[-1].strip().encode()
 
 
-def sum_of(edit: Edit, others: Iterable[bytes] = ()) -> str:
+def sum_of(edit: Edit, texts: Iterable[bytes]) -> str:
     whole = hashlib.sha256(kit())
     with open(edit.path, "rb") as file:
         whole.update(hashlib.sha256(file.read()).digest())
-    for it in [texts_of(edit.crate, WHOLE), *others]:
-        whole.update(it)
+    for it in texts:
+        whole.update(hashlib.sha256(it).digest())
     return whole.hexdigest()[:16]
 
 
+def all_texts(edit: Edit) -> List[bytes]:
+    """Sums of all that a check of an edit reads, where it can't be told what of it counts."""
+    return [texts_of(edit.crate, WHOLE), *(texts_of(it, STATED) for it in repository.below(edit.crate))]
+
+
 def sum_of_twin(edit: Edit) -> str:
-    """A sum of the kit, the edit and its crate. What lies below the crate isn't in it: a function whose own text, contract and
-    proof stay is proved anew by the gate over what changed there, and its twin means the same."""
-    return sum_of(edit)
+    """A sum of the kit, the edit, and the functions that it changes with their proofs. What those call isn't in it: a function whose
+    own text, contract and proof stay is proved anew by the gate over what changed elsewhere, and its twin means the same."""
+    own = seen.own(edit)
+    return sum_of(edit, all_texts(edit) if own is None else [it.text.encode() for it in own])
 
 
 def sum_of_refusal(edit: Edit) -> str:
-    """The same, and of all crates below: what they state decides whether a wrong body is refused."""
-    return sum_of(edit, (texts_of(it, STATED) for it in repository.below(edit.crate)))
+    """A sum of the kit, the edit, and all that decides whether a wrong body is refused (seen.py)."""
+    reached = seen.reached(edit)
+    return sum_of(edit, all_texts(edit) if reached is None else [it.encode() for it in reached])
 
 
 def read(path: str) -> Dict[str, str]:

@@ -2,10 +2,10 @@
 
 import re
 from enum import Enum
-from typing import Dict, Iterator, List, NamedTuple
+from typing import Dict, Iterator, List, NamedTuple, Optional
 
 from .alone import Laid
-from .edits import Batch, asked, lines_of
+from .edits import Batch, Variant, asked, lines_of
 from .repository import text_of
 
 # A proof that names what an edit took away is refused whatever the contract says.
@@ -44,17 +44,17 @@ class Said:
         told = (re.match(r"fn ([^ ]+): (.*)", it) for it in lines)
         self.functions = {it[1].replace("+", ""): it[2] for it in told if it}
 
-    def verdicts(self, batch: Batch) -> Dict[str, Found]:
-        """What became of each edit, and why: one function that is refused suffices, and a twin passes where all do.
+    def verdicts(self, batch: Batch) -> Dict[Variant, Found]:
+        """What became of each edit and twin, and why: one function that is refused suffices, and a twin passes where all do.
 
         One that calls a function of the batch that isn't proved, and has no open goal of its own, isn't judged.
         """
         told = {}
-        for edit, functions in batch.edits:
-            each = [self.of(edit.crate, *it) for it in sorted(functions)]
+        for trial in batch.trials:
+            each = [self.of(trial.variant.edit.crate, *it) for it in sorted(trial.functions)]
             passed = [it for it in each if it.verdict == Verdict.THROUGH]
-            left = [it for it in each if it.verdict != Verdict.THROUGH] if batch.as_twins else each
-            told[str(edit)] = min(left or passed, key=lambda it: list(Verdict).index(it.verdict))
+            left = [it for it in each if it.verdict != Verdict.THROUGH] if trial.variant.as_twin else each
+            told[trial.variant] = min(left or passed, key=lambda it: list(Verdict).index(it.verdict))
         return told
 
     def of(self, crate: str, source: str, name: str) -> Found:
@@ -103,14 +103,10 @@ def module_of(path: str) -> str:
     return f"`Rattle.{crate}.proofs.{rest.replace('::', '.')}.Proof."
 
 
-def seen_beside_twins(found: Dict[str, Found], twins: Dict[str, Found]) -> Dict[str, Found]:
-    """The same, where a twin is known: a refusal counts where the twin passes, also by a proof by hand or at a limit."""
-    told = {}
-    for name, it in found.items():
-        twin = twins.get(name)
-        if twin and twin.verdict != Verdict.THROUGH and it.verdict in (Verdict.REFUSED, Verdict.BY_HAND, Verdict.BY_LIMIT):
-            it = Found(Verdict.TWIN, twin.why)
-        elif twin and it.verdict in (Verdict.BY_HAND, Verdict.BY_LIMIT):
-            it = Found(Verdict.REFUSED, it.why)
-        told[name] = it
-    return told
+def beside_twin(it: Found, twin: Optional[Found]) -> Found:
+    """What became of an edit, where it is known of its twin: a refusal counts where that passes, also by a proof by hand or at a limit."""
+    if twin and twin.verdict != Verdict.THROUGH and it.verdict in (Verdict.REFUSED, Verdict.BY_HAND, Verdict.BY_LIMIT):
+        return Found(Verdict.TWIN, twin.why)
+    if twin and it.verdict in (Verdict.BY_HAND, Verdict.BY_LIMIT):
+        return Found(Verdict.REFUSED, it.why)
+    return it

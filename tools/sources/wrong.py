@@ -9,8 +9,8 @@
     wrong/run --apply                only sees that every edit and every wrong program can still be laid over the
                                      sources: no prover, some seconds
 
-Edits of different functions are tried by one check: what a function's contract says is shown of its body alone, so each
-is judged for itself. README.md says how, what the edits are for, and when each was tried last.
+One check tries many edits: what a function's contract says is shown of its body alone, so each is judged for itself, also
+several of one function. README.md says how, what the edits are for, and when each was tried last.
 
 The status is 0 where all that was tried was refused, 1 where an edit was let through, can't be applied or wasn't tried.
 """
@@ -26,10 +26,10 @@ from typing import Dict, Iterator, List, Tuple
 
 from . import known
 from .alone import Laid
-from .edits import HERE, BadEdit, Batch, Edit, asked, batches, edits_of, gate, lines_of, text_of
+from .edits import HERE, BadEdit, Batch, Edit, Variant, asked, batches, edits_of, gate, lines_of, text_of
 from .repository import ROOT, crates
 from .repository import text_of as text_at
-from .told import Found, Said, Verdict, seen_beside_twins
+from .told import Found, Said, Verdict, beside_twin
 
 # The memory of a job of a check, as a share of what the machine has.
 MEMORY_OF_ONE = 5 << 30
@@ -46,21 +46,23 @@ class Prover:
         self.room, self.kept, self.jobs = room, kept, jobs
         os.makedirs(kept, exist_ok=True)
 
-    def tried_in_turn(self, edits: List[Edit], as_twins: bool) -> Iterator[Dict[str, Found]]:
-        """What became of these edits, or of their twins, and why, a check at a time. One that wasn't judged beside others, as
-        it calls one of their functions, is tried once more without those."""
+    def tried_in_turn(self, variants: List[Variant]) -> Iterator[Dict[Variant, Found]]:
+        """What became of these edits and twins, and why, a check at a time. One that wasn't judged beside others, as it calls a
+        function that another has put in the place of a real one, is tried once more without that."""
         again = []
-        for batch in batches(edits, as_twins):
+        for batch in batches(variants):
+            disturbed = [it.variant for it in batch.trials if any(it.calls(other) for other in batch.trials if other is not it)]
             found = self.tried(batch)
-            again += [edit for edit, _ in batch.edits if found[str(edit)].verdict == Verdict.UNTRIED]
-            yield {name: it for name, it in found.items() if it.verdict != Verdict.UNTRIED}
-        for batch in batches(again, as_twins, apart=True):
+            left = [it for it in disturbed if found[it].verdict == Verdict.UNTRIED]
+            again += left
+            yield {it: told for it, told in found.items() if it not in left}
+        for batch in batches(again, apart=True):
             yield self.tried(batch)
 
-    def tried(self, batch: Batch) -> Dict[str, Found]:
-        """What became of each edit of a batch, and why. Those that don't compile are left out, and the others tried."""
-        found: Dict[str, Found] = {}
-        while batch.edits:
+    def tried(self, batch: Batch) -> Dict[Variant, Found]:
+        """What became of each edit and twin of a batch, and why. Those that don't compile are left out, and the others tried."""
+        found: Dict[Variant, Found] = {}
+        while batch.trials:
             with tempfile.TemporaryDirectory(prefix="laid-", dir=self.room) as room:
                 laid = self.laid(room, batch)
                 lines = self.check(laid, batch)
@@ -70,15 +72,17 @@ class Prover:
             if not bad:
                 raise NoCheck("\n".join([*(it for it in lines if "error" in it), *lines[-1:]][:5]))
             found.update(bad)
-            left = [edit for edit, _ in batch.edits if str(edit) not in bad]
-            batch = batches(left, batch.as_twins, batch.apart)[0] if left else Batch(batch.as_twins, batch.apart)
+            left = [it.variant for it in batch.trials if it.variant not in bad]
+            batch = batches(left, batch.apart)[0] if left else Batch(batch.apart)
         return found
 
     def laid(self, room: str, batch: Batch) -> Laid:
-        laid = Laid(room, sorted(batch.texts))
-        for crate, texts in batch.texts.items():
-            for source, text in texts.items():
+        laid = Laid(room, batch.crates())
+        for crate in batch.crates():
+            for source, text in batch.texts(crate).items():
                 laid.lay(crate, source, text)
+            for it in batch.copies.get(crate, []):
+                laid.copy_proof(crate, it)
         for crate in laid.used:
             laid.leave_out(crate, batch.functions(crate))
         return laid
@@ -86,27 +90,28 @@ class Prover:
     def check(self, laid: Laid, batch: Batch) -> List[str]:
         """What a check of the batch's functions prints."""
         words = [*laid.words(), "--jobs", str(self.jobs), "--incremental", self.kept]
-        for crate in batch.texts:
+        for crate in batch.crates():
+            texts = batch.texts(crate)
             for source, name in sorted(batch.functions(crate)):
-                words += ["--only", asked(crate, source, batch.texts[crate].get(source) or text_of(crate, source), name)]
+                words += ["--only", asked(crate, source, texts.get(source) or text_of(crate, source), name)]
         ran = subprocess.run(
             words, cwd=f"{laid.room}/laid", stdin=subprocess.DEVNULL, stdout=subprocess.PIPE, stderr=subprocess.STDOUT,
             text=True, errors="replace")
         return [it for it in ran.stdout.splitlines() if not it.startswith("so far: ")]
 
-    def uncompiled(self, room: str, batch: Batch, lines: List[str]) -> Dict[str, Found]:
-        """The edits at whose functions the compiler found an error."""
+    def uncompiled(self, room: str, batch: Batch, lines: List[str]) -> Dict[Variant, Found]:
+        """The edits and twins at whose functions the compiler found an error."""
         found = {}
         for number, line in enumerate(lines):
             at = re.match(r"\s*-->\s*(\S+?):(\d+):\d+|(\S+?):(\d+):\d+: error", line)
             if not at:
                 continue
             path, row = at[1] or at[3], int(at[2] or at[4])
-            for edit, functions in batch.edits:
-                for source, name in functions:
-                    if path == f"{room}/{edit.crate}/{source}" and row in lines_of(text_at(path), name):
+            for trial in batch.trials:
+                for source, name in trial.functions:
+                    if path == f"{room}/{trial.variant.edit.crate}/{source}" and row in lines_of(text_at(path), name):
                         why = next((it for it in reversed(lines[: number + 1]) if "error" in it), line)
-                        found[str(edit)] = Found(Verdict.BAD, why.replace(f"{room}/", ""))
+                        found[trial.variant] = Found(Verdict.BAD, why.replace(f"{room}/", ""))
         return found
 
 
@@ -134,34 +139,39 @@ def try_all(wanted: List[Edit], jobs: int, kept: str, given: argparse.Namespace)
     begun = time.monotonic()
     edits, left = unrecorded(wanted, given)
     twins = [it for it in edits if it.has_twin()]
-    print(f"wrong/run: tries {len(edits)} edits, {len(twins)} of them beside a twin", flush=True)
-    passed: Dict[str, Found] = {str(it): Found(Verdict.THROUGH) for it in twins if it not in left}
-    found: Dict[str, Found] = {}
+    print(f"wrong/run: tries {len(edits)} edits, {len(twins)} of them beside a twin, and {len(left)} twins", flush=True)
+    passed: Dict[Edit, Found] = {it: Found(Verdict.THROUGH) for it in twins if it not in left}
+    tried: Dict[Edit, Found] = {}
+    # An edit behind its twin, so that one check has both, and each crate behind those below, which a check can then leave out.
+    variants = [Variant(it, as_twin) for it in edits for as_twin in (True, False) if not as_twin or it in left]
     with tempfile.TemporaryDirectory(prefix="wrong-") as room:
         prover = Prover(room, os.path.abspath(kept or f"{room}/kept"), jobs)
-        for told in prover.tried_in_turn(left, True):
-            passed.update(told)
-            print_each("twin of", {name: it for name, it in told.items() if it.verdict != Verdict.THROUGH})
-            print(f"wrong/run: {len(passed)} of {len(twins)} twins, {spent()}", flush=True)
-        for told in prover.tried_in_turn(edits, False):
-            told = seen_beside_twins(told, passed)
-            found.update(told)
-            print_each("wrong", told)
-            print(f"wrong/run: {len(found)} of {len(edits)} edits, {spent()}", flush=True)
+        for told in prover.tried_in_turn(variants):
+            for it, found in told.items():
+                (passed if it.as_twin else tried)[it.edit] = found
+            print_each("twin of", {str(it.edit): found for it, found in told.items() if it.as_twin and found.verdict != Verdict.THROUGH})
+            print(f"wrong/run: {len(tried)} of {len(edits)} edits, {len(passed)} of {len(twins)} twins, {spent()}", flush=True)
+            if given.record:
+                record(tried, passed)
+    found_of = {it: beside_twin(found, passed.get(it)) for it, found in tried.items()}
+    print_each("wrong", {str(it): found for it, found in found_of.items()})
     for verdict in Verdict:
-        names = sorted(name for name, it in found.items() if it.verdict == verdict)
+        names = sorted(str(it) for it, found in found_of.items() if found.verdict == verdict)
         if names or verdict == Verdict.REFUSED:
             print(f"wrong/run: {len(names)} {verdict.value}")
         if verdict != Verdict.REFUSED:
             print("".join(f"    {it}\n" for it in names), end="")
-    well = [it for it in twins if passed[str(it)].verdict == Verdict.THROUGH]
+    well = [it for it in twins if passed[it].verdict == Verdict.THROUGH]
     print(f"wrong/run: {len(well)} of {len(twins)} twins passed")
-    if given.record:
-        refused = [it for it in edits if found[str(it)].verdict == Verdict.REFUSED]
-        known.write(known.TWINS, known.sum_of_twin, well)
-        known.write(known.REFUSED, known.sum_of_refusal, refused)
     print(f"wrong/run: {time.monotonic() - begun:.0f} seconds by the clock, {spent()}")
-    return all(it.verdict == Verdict.REFUSED for it in found.values())
+    return all(it.verdict == Verdict.REFUSED for it in found_of.values())
+
+
+def record(tried: Dict[Edit, Found], passed: Dict[Edit, Found]) -> None:
+    """Records what is known so far: an edit with a twin only once that is judged."""
+    known.write(known.TWINS, known.sum_of_twin, [it for it, found in passed.items() if found.verdict == Verdict.THROUGH])
+    told = {it: beside_twin(found, passed.get(it)) for it, found in tried.items() if it in passed or not it.has_twin()}
+    known.write(known.REFUSED, known.sum_of_refusal, [it for it, found in told.items() if found.verdict == Verdict.REFUSED])
 
 
 def print_each(of: str, found: Dict[str, Found]) -> None:

@@ -1,4 +1,4 @@
--- What is told of a part at the front of bytes that have one.
+-- What is reported about a part at the front of bytes that have one.
 use Rattle.std.proofs.Common.{◌≡◌, ℕ, List, Result, Ok, inl}
 use Rattle.wire.specs.declared.fault.WireFault.{WireFault}
 use Rattle.ffi.specs.Refusals.{IsTold}

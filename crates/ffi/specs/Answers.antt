@@ -52,7 +52,7 @@ pub record IsOpenedBy (params : Params) (ls : List (List ℕ)) (after : Option S
   pub after_is : after ≡ Some (new_session params triples false)
   pub table : IsTableOf ls triples
 
--- A slot that is full stays so. Into another one a session comes; or a line can't be read, which alone is told; or there
+-- A slot that is full stays so. Into another one a session comes; or a line can't be read, and only that is reported; or there
 -- was no memory.
 abbrev pub IsOpened : Params → List (List ℕ) → Option SessionState → Option SessionState → ℕ → ℕ → ℕ → Type 0
 IsOpened params ls (Some s) after line told result = (result ≡ 6) × (after ≡ Some s) × (told ≡ line)
@@ -74,7 +74,7 @@ close_number (Some x) = 0
 
 -- ---- steps
 
--- a reply as C is told it
+-- a reply as C receives it
 pub record IsTold (reply : Reply) (a : Answer) : Type 0 where
   pub reply_is : a.reply ≡ reply_number reply
   pub reason_is : a.reason ≡ reason_number reply
@@ -82,7 +82,7 @@ pub record IsTold (reply : Reply) (a : Answer) : Type 0 where
   pub input_is : a.input ≡ input_number reply
 
 -- the session of before took the definition's step under each set of valid signatures that agrees with what is known, and
--- its reply is told
+-- its reply is reported
 pub record IsTaken (s : SessionState) (after : Option SessionState) (c : Command) (a : Answer) : Type 0 where
   pub next : SessionState
   pub reply : Reply
@@ -98,7 +98,7 @@ pub record IsNotTaken (s : SessionState) (after : Option SessionState) (c : Comm
   pub after_is : after ≡ Some next
   pub step_is : IsNoStep s next c code
 
--- The step is taken; or none is, and what is told stays as it was.
+-- The step is taken; or none is, and what is reported stays as it was.
 abbrev pub IsAnswered : Option SessionState → Option SessionState → Command → Answer → Answer → ℕ → Type 0
 IsAnswered None after c before told result = (result ≡ 2) × (after ≡ None) × (told ≡ before)
 IsAnswered (Some s) after c before told result =

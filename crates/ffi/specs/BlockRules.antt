@@ -1,4 +1,4 @@
--- What is told of a block by the rules.
+-- What is reported about a block by the rules.
 use Rattle.std.specs.Prelude.{◌≡◌, ℕ, ◌≤◌, ◌<◌, ◌⊎◌, List, length}
 use Rattle.txn.specs.First.{first_broken}
 use Rattle.txn.specs.Identity.{ids_of}
@@ -28,7 +28,7 @@ pub record ShowsBlock (b : Block) (shown : ShownBlock) : Type 0 where
   pub target : shown.target ≡ bit (meets_target (id_of b.header))
   pub reason : shown.reason ≡ broken_number (first_broken (alone_rules b))
 
--- the median of 1 to 11 times; of none, or of more, nothing is told
+-- the median of 1 to 11 times; for none, or for more, nothing is reported
 abbrev pub IsMedianTold : List ℕ → ℕ → ℕ → ℕ → Type 0
 IsMedianTold times before middle result =
     ((1 ≤ length times) × (length times ≤ 11) × (result ≡ 0) × (middle ≡ median_of times))

@@ -1,4 +1,4 @@
--- What is told of an id's text.
+-- What is reported about an id's text.
 use Rattle.std.specs.Prelude.{◌≡◌, ℕ, ◌⊎◌, List, length, reverse, Ok}
 use Rattle.std.specs.List.{AllPass}
 use Rattle.hex.specs.Hex.{decode_of, is_hex_digit}

@@ -1,4 +1,4 @@
--- What is told of a header by itself.
+-- What is reported about a header by itself.
 use Rattle.std.specs.Prelude.{◌≡◌, ℕ, ◌<◌, ◌⊎◌, List, length}
 use Rattle.block.specs.declared.header.Header.{Header}
 use Rattle.block.specs.Grammar.{header}
@@ -17,7 +17,7 @@ header_row h = record {
   nonce = h.nonce;
 }
 
--- the bytes are a header, which is told; or they are fewer, or more, and nothing is written
+-- the bytes are a header, which is reported; or they are fewer, or more, and nothing is written
 abbrev pub IsHeaderTold : List ℕ → HeaderRow → HeaderRow → ℕ → Type 0
 IsHeaderTold bytes before shown result =
     ((h : Header) × header.Lawful h × (bytes ≡ header.spell h) × (result ≡ 0) × (shown ≡ header_row h))

@@ -1,4 +1,4 @@
--- What is told of an input by what is known of signatures: those of one table are valid, those of another aren't.
+-- What is reported about an input by what is known of signatures: those of one table are valid, those of another aren't.
 use Rattle.std.specs.Prelude.{◌≡◌, ◌⊎◌, ◌↔◌, ℕ, ◌<◌, Bool, IsTrue, List, length}
 use Rattle.txn.specs.declared.tx.Tx.{Tx}
 use Rattle.curve.specs.Known.{Under, Verdicts, AreApart, verdict_in}
@@ -18,7 +18,7 @@ pub record AreOf (valid invalid : List (List ℕ)) (found : Verdicts) : Type 0 w
   pub valid_are : IsTableOf valid found.valid
   pub invalid_are : IsTableOf invalid found.invalid
 
--- a verdict is told, which is the same whatever else is valid
+-- a verdict is reported, which is the same whatever else is valid
 pub record IsAgreed (tx : Tx) (input : ℕ) (spent : List ℕ) (flags : Flags) (found : Verdicts) (told : ℕ) : Type 0 where
   pub yes : Bool
   pub told_is : told ≡ bit yes
@@ -36,7 +36,7 @@ pub record Asked : Type 0 where
 abbrev pub asked_of : List ℕ → ℕ → Asked
 asked_of room count = record { room = room; count = count }
 
--- a triple's line is there, or there is no room for it; how many bytes it has is told in both cases
+-- a triple's line is there, or there is no room for it; how many bytes it has is reported in both cases
 abbrev pub IsLineTold : Triple → Asked → Asked → ℕ → Type 0
 IsLineTold t before after result =
     let line = line_of t.key t.signature t.digest in
@@ -51,7 +51,7 @@ IsFound tx input spent flags found told kept before after result =
     ⊎ (((t : Triple) × IsWanted tx input spent flags found t × IsLineTold t before after result × kept)
     ⊎ ((result ≡ 1) × (after ≡ before) × kept))
 
--- The same by two tables. A line of one can't be read, which alone is told; or a triple is in both.
+-- The same by two tables. A line of one can't be read, and only that is reported; or a triple is in both.
 abbrev pub IsFoundBy : Tx → ℕ → List ℕ → Flags → List (List ℕ) → List (List ℕ) → ℕ → ℕ → ℕ → Type 0 → Asked → Asked → ℕ → Type 0
 IsFoundBy tx input spent flags valid invalid before line told kept asked asked' result =
     ((found : Verdicts) × AreOf valid invalid found × (line ≡ before) × IsFound tx input spent flags found told kept asked asked' result)
@@ -59,7 +59,7 @@ IsFoundBy tx input spent flags valid invalid before line told kept asked asked' 
     ⊎ (((IsFirstBad valid line ⊎ IsFirstBad invalid line) × (result ≡ 3))
     ⊎ ((line ≡ before) × (result ≡ 1)))) × (asked' ≡ asked) × kept)
 
--- of an input that there is; of another one nothing is told
+-- of an input that there is; for another one nothing is reported
 abbrev pub IsInputFound : Tx → ℕ → List ℕ → Flags → List (List ℕ) → List (List ℕ) → ℕ → ℕ → ℕ → Type 0 → Asked → Asked → ℕ → Type 0
 IsInputFound tx input spent flags valid invalid before line told kept asked asked' result =
     ((input < length tx.inputs) × IsFoundBy tx input spent flags valid invalid before line told kept asked asked' result)

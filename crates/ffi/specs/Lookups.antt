@@ -1,4 +1,4 @@
--- What is told of a session's blocks: ids, headers with where they stand, and what a block spent. What isn't told stays as it was.
+-- What is reported about a session's blocks: ids, headers with their places, and what a block spent. What isn't reported stays as it was.
 use Rattle.std.specs.Prelude.{◌≡◌, ℕ, ℤ, pos, negsuc, ◌⊎◌, ◌<◌, List, length, map, Option, None, Some}
 use Rattle.std.specs.List.{flat_map}
 use Rattle.hash.specs.declared.id.Id.{Id}
@@ -17,7 +17,7 @@ use Rattle.ffi.specs.SessionState.{SessionState, rules_of, tree_of}
 
 -- ---- ids
 
--- the id is told, or there is none
+-- the id is reported, or there is none
 abbrev pub IsIdShown : Option Id → Name → Name → ℕ → Type 0
 IsIdShown None before told result = (result ≡ 4) × (told ≡ before)
 IsIdShown (Some id) before told result = (result ≡ 0) × (id_of told ≡ id)
@@ -64,7 +64,7 @@ pub record SpentRoom : Type 0 where
   pub scripts : List ℕ
   pub size : ShownSpent
 
--- they are there, or there is no room for them; how many there are is told in both cases
+-- they are there, or there is no room for them; how many there are is reported in both cases
 abbrev pub AreCoinsShown : List (List Coin) → SpentRoom → SpentRoom → ℕ → Type 0
 AreCoinsShown undo before after result =
     (after.size ≡ record { coins = length (coin_rows undo); scripts = length (coin_scripts undo) })

@@ -1,4 +1,4 @@
--- What is told of a Merkle tree.
+-- What is reported about a Merkle tree.
 use Rattle.std.specs.Prelude.{◌≡◌, ℕ, ◌⊎◌, List}
 use Rattle.hash.specs.declared.id.Id.{Id}
 use Rattle.block.specs.Merkle.{root, twin}

@@ -1,4 +1,4 @@
--- What is told of scripts and inputs with the name of a failure, by what is known of signatures.
+-- What is reported about scripts and inputs with the name of a failure, by what is known of signatures.
 use Rattle.std.specs.Prelude.{◌≡◌, ◌≢◌, ◌⊎◌, ℕ, ◌^◌, ◌/◌, ◌%◌, ◌==◌, ◌<◌, Bool, List, length, map, reverse, sum_by, Result, Ok, Err}
 use Rattle.std.specs.List.{flat_map}
 use Rattle.txn.specs.declared.tx.Tx.{Tx}
@@ -56,7 +56,7 @@ flags_in n = record { p2sh = has_bit 1 n; dersig = has_bit 4 n; cltv = has_bit 5
 
 -- ---- by what is known
 
--- What is known suffices for an answer, which is told; or the line of a triple is, which has to be found out first; or
+-- What is known suffices for an answer, which is reported; or the line of a triple is, which has to be found out first; or
 -- there was no memory.
 abbrev pub IsAnswered : {A : Type 0} → Answer A → (A → Type 0) → Type 0 → Asked → Asked → ℕ → Type 0
 IsAnswered {A} answer told kept before after result =
@@ -64,7 +64,7 @@ IsAnswered {A} answer told kept before after result =
     ⊎ (((t : Triple) × (answer ≡ Wants t) × IsLineTold t before after result × kept)
     ⊎ ((result ≡ 1) × (after ≡ before) × kept))
 
--- What two tables say is known. A line of one can't be read, which alone is told; or a triple is in both.
+-- What two tables say is known. A line of one can't be read, and only that is reported; or a triple is in both.
 abbrev pub IsByTables : List (List ℕ) → List (List ℕ) → (Verdicts → Type 0) → ℕ → ℕ → Type 0 → ℕ → Type 0
 IsByTables valid invalid told before line kept result =
     ((found : Verdicts) × AreOf valid invalid found × (line ≡ before) × told found)
@@ -72,13 +72,13 @@ IsByTables valid invalid told before line kept result =
     ⊎ (((IsFirstBad valid line ⊎ IsFirstBad invalid line) × (result ≡ 3))
     ⊎ ((line ≡ before) × (result ≡ 1)))) × kept)
 
--- of an input that there is; of another one nothing is told
+-- of an input that there is; for another one nothing is reported
 abbrev pub IsOfOne : Tx → ℕ → Type 0 → Type 0 → ℕ → Type 0
 IsOfOne tx input told kept result = ((input < length tx.inputs) × told) ⊎ (((input < length tx.inputs) → ⊥) × (result ≡ 24) × kept)
 
 -- ---- an input
 
--- what is told of an input: the line of a table that can't be read, the number of a failure, and the line that is asked for
+-- what is reported about an input: the line of a table that can't be read, the number of a failure, and the line that is asked for
 pub record Told : Type 0 where
   pub line : ℕ
   pub error : ℕ
@@ -94,7 +94,7 @@ IsNamed tx input spent flags found before after result =
     (λ failed. (result ≡ 0) × (after.error ≡ failure_number failed))
     (after.error ≡ before.error) before.asked after.asked result
 
--- the same by two tables, of an input that there is; of another one nothing is told
+-- the same by two tables, of an input that there is; for another one nothing is reported
 abbrev pub IsInputNamed : Tx → ℕ → List ℕ → ℕ → List (List ℕ) → List (List ℕ) → Told → Told → ℕ → Type 0
 IsInputNamed tx input spent flags valid invalid before after result =
     let kept = (after.asked ≡ before.asked) × (after.error ≡ before.error) in
@@ -102,7 +102,7 @@ IsInputNamed tx input spent flags valid invalid before after result =
     (IsByTables valid invalid (λ found. IsNamed tx input spent flags found before after result) before.line after.line kept result)
     ((after.line ≡ before.line) × kept) result
 
--- by verdicts that are kept, of an input that there is; no line of a table is told
+-- by verdicts that are kept, of an input that there is; no line of a table is reported
 abbrev pub IsInputKnown : Tx → ℕ → List ℕ → ℕ → Verdicts → Told → Told → ℕ → Type 0
 IsInputKnown tx input spent flags found before after result =
     let kept = (after.asked ≡ before.asked) × (after.error ≡ before.error) in

@@ -24,7 +24,7 @@ abbrev pub tx_kept : Option PrecomputedTx → Option Tx
 tx_kept kept = option_map (λ (it : PrecomputedTx). it.tx) kept
 
 -- A slot that is full stays so. Into another one comes the transaction at the front of the bytes, and how many of them it
--- takes is told; or their fault is told.
+-- takes is reported; or their fault is reported.
 abbrev pub IsRead : List ℕ → Option Tx → Option Tx → ℕ → ℕ → ℕ → Type 0
 IsRead bytes (Some tx) after before used result = (result ≡ 6) × (after ≡ Some tx) × (used ≡ before)
 IsRead bytes None after before used result =
@@ -37,12 +37,12 @@ IsWhole bytes tx after result =
     let size = length (transaction.spell tx) in
     ((size ≡ length bytes) × (result ≡ 0) × (after ≡ Some tx)) ⊎ ((size < length bytes) × (result ≡ 23) × (after ≡ None))
 
--- the same of the transaction that all the bytes spell
+-- the same for the transaction that all the bytes spell
 abbrev pub IsReadWhole : List ℕ → Option Tx → Option Tx → ℕ → Type 0
 IsReadWhole bytes (Some tx) after result = (result ≡ 6) × (after ≡ Some tx)
 IsReadWhole bytes None after result = IsTold (tx_at bytes) (λ tx. IsWhole bytes tx after result) (after ≡ None) result
 
--- what is told of what is in a slot; where there is nothing in it nothing is
+-- what is reported about what is in a slot; where there is nothing in it nothing is
 abbrev pub IsOfKept : {A : Type 0} → Option A → (A → Type 0) → Type 0 → ℕ → Type 0
 IsOfKept None told kept result = (result ≡ 2) × kept
 IsOfKept (Some x) told kept result = told x
@@ -61,7 +61,7 @@ first_refused known flags tx place [] = Says None
 first_refused known flags tx place (script ∷ scripts) =
     before_others place (verify_script known (question tx place script flags)) (first_refused known flags tx (place + 1) scripts)
 
--- what is told of all inputs: the line of a table that can't be read, the input, the number of its failure, and the line
+-- what is reported about all inputs: the line of a table that can't be read, the input, the number of its failure, and the line
 -- that is asked for
 pub record ToldAll : Type 0 where
   pub line : ℕ
@@ -83,7 +83,7 @@ IsRefusalAnswered answer before after result =
     IsAnswered answer (λ refused. (result ≡ 0) × IsRefusalTold refused after)
     ((after.input ≡ before.input) × (after.error ≡ before.error)) before.asked after.asked result
 
--- There is a script for each input, and bytes for each script; or that is told, or there was no memory.
+-- There is a script for each input, and bytes for each script; or that is reported, or there was no memory.
 abbrev pub IsOfScripts : Tx → List ℕ → List ℕ → (List (List ℕ) → Type 0) → Type 0 → ℕ → Type 0
 IsOfScripts tx sizes bytes told kept result =
     ((scripts : List (List ℕ)) × (length scripts ≡ length tx.inputs) × (map (λ script. length script) scripts ≡ sizes)

@@ -45,19 +45,19 @@ abbrev pub bit : Bool → ℕ
 bit true = 1
 bit false = 0
 
--- What is answered about a part at the front of bytes. Where bytes have none, its fault is told and nothing is
+-- What is answered about a part at the front of bytes. Where bytes have none, its fault is reported and nothing is
 -- written. Memory may always run out, and nothing is written then either.
 abbrev pub IsTold : {X : Type 0} → Result (X × List ℕ) WireFault → (X → Type 0) → Type 0 → ℕ → Type 0
 IsTold (Ok found) told kept result = told found.0 ⊎ ((result ≡ 1) × kept)
 IsTold (Err fault) told kept result = ((result ≡ wire_number fault) ⊎ (result ≡ 1)) × kept
 
--- The same of a block that bytes spell, all of them. That no block is spelled is told by the fault that they have.
+-- The same for a block that bytes spell, all of them. That no block is spelled is reported by the fault that they have.
 abbrev pub IsBlockTold : List ℕ → Option Block → (Block → Type 0) → Type 0 → ℕ → Type 0
 IsBlockTold bytes (Some b) told kept result = told b ⊎ ((result ≡ 1) × kept)
 IsBlockTold bytes None told kept result =
     (((fault : ReadFault) × Faulty fault bytes × (result ≡ read_number fault)) ⊎ (result ≡ 1)) × kept
 
--- the bytes have this fault, so it is told
+-- the bytes have this fault, so it is reported
 abbrev pub IsFaultTold : ReadFault → ℕ → Type 0
 IsFaultTold fault result = (result ≡ read_number fault) ⊎ (result ≡ 1)
 

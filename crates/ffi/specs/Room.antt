@@ -11,7 +11,7 @@ IsFilled found before after result =
     ((result ≡ 0) × IsAtFront found before after)
     ⊎ ((result ≡ 5) × (length before < length found) × (after ≡ before))
 
--- the same, and how many are wanted is told in both cases; or memory ran out, and nothing changes
+-- the same, and how many are wanted is reported in both cases; or memory ran out, and nothing changes
 abbrev pub IsCounted : {A : Type 0} → List A → List A → List A → ℕ → ℕ → ℕ → Type 0
 IsCounted found before after count told result =
     (IsFilled found before after result × (told ≡ length found))

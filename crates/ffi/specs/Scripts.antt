@@ -1,4 +1,4 @@
--- What is told of scripts, of the digests that signatures sign, and of what an input may spend.
+-- What is reported about scripts, the digests that signatures sign, and what an input may spend.
 use Rattle.std.specs.Prelude.{◌≡◌, ℕ, ℤ, ◌-◌, ◌==◌, ◌<◌, ◌⊎◌, ◌↔◌, Bool, true, IsTrue, not, List, [], ◌∷◌, length, take, drop, Option, None, Some}
 use Rattle.script.specs.Kinds.{is_p2sh, is_push_only, is_unspendable}
 use Rattle.script.specs.Op.{number_of, pushed_of}
@@ -43,7 +43,7 @@ abbrev pub IsNumberTold : Option ℤ → ℤ → Type 0 → ℕ → Type 0
 IsNumberTold None value kept result = (result ≡ 4) × kept
 IsNumberTold (Some n) value kept result = (result ≡ 0) × (value ≡ n)
 
--- what is told of an input, where there is one
+-- what is reported about an input, where there is one
 abbrev pub IsOfInput : Tx → ℕ → Type 0 → Type 0 → ℕ → Type 0
 IsOfInput tx input told kept result =
     ((input < length tx.inputs) × (result ≡ 0) × told) ⊎ (((input < length tx.inputs) → ⊥) × (result ≡ 24) × kept)
@@ -52,7 +52,7 @@ IsOfInput tx input told kept result =
 abbrev pub flags_of : ShownFlags → Flags
 flags_of f = record { p2sh = true; dersig = not (f.dersig == 0); cltv = not (f.cltv == 0); csv = not (f.csv == 0) }
 
--- whether the input may spend the script is told, by these valid signatures
+-- whether the input may spend the script is reported, by these valid signatures
 pub record IsVerdict (tx : Tx) (input : ℕ) (spent : List ℕ) (flags : Flags) (triples : Triples) (told : ℕ) : Type 0 where
   pub yes : Bool
   pub told_is : told ≡ bit yes
@@ -63,7 +63,7 @@ abbrev pub IsJudged : Tx → ℕ → List ℕ → Flags → List (List ℕ) → 
 IsJudged tx input spent flags ls before line told kept result =
     IsByTable ls (λ triples. IsVerdict tx input spent flags triples told) before line kept result
 
--- of an input that there is; of another one nothing is told
+-- of an input that there is; for another one nothing is reported
 abbrev pub IsInputJudged : Tx → ℕ → List ℕ → Flags → List (List ℕ) → ℕ → ℕ → ℕ → Type 0 → ℕ → Type 0
 IsInputJudged tx input spent flags ls before line told kept result =
     ((input < length tx.inputs) × IsJudged tx input spent flags ls before line told kept result)

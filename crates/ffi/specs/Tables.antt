@@ -1,10 +1,10 @@
--- What is told by a table of valid signatures, which is passed as its text.
+-- What a table of valid signatures reports, which is passed as its text.
 use Rattle.std.specs.Prelude.{◌≡◌, ℕ, ◌⊎◌, ◌++◌, List, [], ◌∷◌, codes}
 use Rattle.hex.specs.Hex.{encode_lower}
 use Rattle.curve.specs.Lines.{IsFirstBad, IsTableOf}
 use Rattle.curve.specs.Triple.{Triples}
 
--- What its triples say is told; or a line can't be read, which alone is told; or memory ran out, and nothing is.
+-- What its triples say is reported; or a line can't be read, and only that is reported; or memory ran out, and nothing is.
 abbrev pub IsByTable : List (List ℕ) → (Triples → Type 0) → ℕ → ℕ → Type 0 → ℕ → Type 0
 IsByTable ls told before line kept result =
     ((result ≡ 0) × ((triples : Triples) × IsTableOf ls triples × told triples) × (line ≡ before))

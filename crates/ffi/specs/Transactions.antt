@@ -1,4 +1,4 @@
--- What is told of a transaction.
+-- What is reported about a transaction.
 use Rattle.std.specs.Prelude.{◌≡◌, ℕ, ◌-◌, ◌^◌, ◌⊎◌, List, length, map, min}
 use Rattle.txn.specs.declared.tx.Tx.{Tx}
 use Rattle.txn.specs.Check.{is_coinbase, tx_rules}

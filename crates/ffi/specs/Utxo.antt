@@ -1,4 +1,4 @@
--- What is told of a set of coins: of blocks that are connected to it, and of transactions.
+-- What is reported about a set of coins: of blocks that are connected to it, and of transactions.
 --     22 the transaction has more inputs and outputs than fit into a block
 use Rattle.std.specs.Prelude.{◌≡◌, ℕ, ◌+◌, ◌<◌, ◌⊎◌, not, ◌==◌, Bool, ℤ, pos, negsuc, int_lt, if◌then◌else◌, List, ◌++◌, length, Option, None, Some}
 use Rattle.txn.specs.declared.outpoint.OutPoint.{OutPoint}
@@ -64,7 +64,7 @@ pub record IsFaultFound (s : Setting) (before after : UtxoState) (block : Block)
   pub after_is : after ≡ left_by s before block found
   pub told_is : told ≡ fault_row found
 
--- it is told, or there is no answer, and what is told stays
+-- it is reported, or there is no answer, and what is reported stays
 abbrev pub IsConnectTold : Setting → Block → Fault → Fault → ℕ → UtxoState → UtxoState → Type 0
 IsConnectTold s block told_before told result before after =
     ((result ≡ 0) × IsFaultFound s before after block told)

@@ -68,7 +68,7 @@ abbrev pub IsNoAnswer : Setting → UtxoState → UtxoState → Block → ℕ �
 IsNoAnswer s before after block code = ((code ≡ 31) × IsWanting s before after block) ⊎ ((code ≡ 1) × (after ≡ before))
 
 -- The block that was connected last is taken back: the coins are those to which it was connected. Where there is none that
--- is told; or there was no memory.
+-- is reported; or there was no memory.
 abbrev pub IsTakenBack : UtxoState → Option Connected → UtxoState → ℕ → Type 0
 IsTakenBack before None after code = (code ≡ 4) × (after ≡ before)
 IsTakenBack before (Some c) after code =

@@ -134,7 +134,7 @@ fn number_of_submission(reply: SubmitReply) -> u32
     }
 }
 
-/// A reply as C is told it.
+/// A reply as C receives it.
 pub(crate) fn as_told(reply: Reply) -> Answer
     ensures reply { result.reply ≡ reply_number reply }
     ensures reason { result.reason ≡ reason_number reply }
@@ -169,7 +169,7 @@ pub(crate) fn as_told(reply: Reply) -> Answer
     told
 }
 
-/// A tip as C is told it.
+/// A tip as C receives it.
 pub(crate) fn shown_tip(tip: &Tip) -> ShownTip
     ensures id { result.id.bytes ≡ tip.now.id.0 }
     ensures height { result.height ≡ tip.now.height }

@@ -222,7 +222,7 @@ fn input_of(row: &InputRow, script: Vec<u8>) -> TxIn
     }
 }
 
-/// The same of outputs.
+/// The same for outputs.
 fn outputs_of(
     alloc: Global,
     rows: &[OutputRow],

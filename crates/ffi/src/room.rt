@@ -1,4 +1,4 @@
-//! The room that C passes for what is told.
+//! The room that C passes for what is reported.
 
 ghost use Rattle.std.specs.Prelude.{◌≡◌, ◌≤◌, ◌++◌, length, drop};
 ghost use Rattle.ffi.specs.Room.{IsFilled};

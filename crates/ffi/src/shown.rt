@@ -169,7 +169,7 @@ pub struct KnownQuestion<'a> {
     pub flags: u32,
 }
 
-/// What is told of an input: the number of the line that can't be read, how many bytes the line has that is asked for, and
+/// What is reported about an input: the number of the line that can't be read, how many bytes the line has that is asked for, and
 /// the number of the failure.
 #[repr(C)]
 #[derive(Clone, Copy, Drop)]
@@ -219,7 +219,7 @@ pub struct AllQuestion<'a> {
     pub flags: u32,
 }
 
-/// What is told of all inputs: the number of the line that can't be read, how many bytes the line has that is asked for, the
+/// What is reported about all inputs: the number of the line that can't be read, how many bytes the line has that is asked for, the
 /// first input that is refused, and the number of its failure.
 #[repr(C)]
 #[derive(Clone, Copy, Drop)]

@@ -1,5 +1,8 @@
 //! Why a journal isn't read.
 
+ghost use Rattle.std.specs.Prelude.{◌≡◌};
+ghost use Rattle.journal.specs.declared.fault.JournalFault.TheVariants as faults;
+
 use std::alloc::{AllocError, AllocFailed};
 
 /// Why a journal isn't read.
@@ -11,12 +14,16 @@ pub enum JournalFault {
 }
 
 impl From<AllocError> for JournalFault {
+    ghost from_gives = { λ _ fault. fault ≡ faults.Memory };
+
     fn from(_error: AllocError) -> JournalFault {
         JournalFault::Memory
     }
 }
 
 impl<T: Drop> From<AllocFailed<T>> for JournalFault {
+    ghost from_gives = { λ _ fault. fault ≡ faults.Memory };
+
     fn from(_error: AllocFailed<T>) -> JournalFault {
         JournalFault::Memory
     }

@@ -81,7 +81,7 @@ pub fn read<'d>(
     })
 }
 
-/// What is told of a coin where the active block has this height.
+/// What is reported about a coin where the active block has this height.
 fn output_of(alloc: Global, coin: &Coin, height: usize) -> Result<UnspentOutput, Memory> {
     let above = u32::try_from(height)
         .unwrap_or(u32::MAX)

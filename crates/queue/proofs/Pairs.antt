@@ -8,7 +8,7 @@ use Rattle.txn.specs.declared.input.TxIn.{TxIn}
 use Rattle.txn.specs.declared.tx.Tx.{Tx}
 use Rattle.curve.specs.Known.{Known}
 use Rattle.interp.specs.computed.Step.{verdict}
-use Rattle.queue.proofs.Answering.{answered-says, says-answered}
+use Rattle.queue.proofs.Answering.{answered-says, says-answered, slice_get-push}
 use Rattle.interp.specs.laws.Keeping.{verdict-kept}
 use Rattle.interp.specs.declared.flags.Flags.{Flags}
 use Rattle.interp.specs.Answer.{Answer, Says}
@@ -29,12 +29,11 @@ below_or a zero = inr (omega arith)
 below_or zero (suc b) = inl (omega arith)
 below_or (suc a) (suc b) = ⊎_elim (λ h. inl (omega (arith, h))) (λ h. inr (omega (arith, h))) (below_or a b)
 
--- an element of a list with one more
-pub slice_get-push : {A : Type 0} (xs : List A) (x : A) (k : ℕ) (y : A) → slice_get (xs ++ x ∷ []) k ≡ Some y → (slice_get xs k ≡ Some y) ⊎ ((k ≡ length xs) × (x ≡ y))
-slice_get-push [] x zero y h = inr (refl, some_is x y h)
-slice_get-push [] x (suc k) y h = absurd cc
-slice_get-push (z ∷ xs) x zero y h = inl h
-slice_get-push (z ∷ xs) x (suc k) y h = ⊎_elim (λ is. inl is) (λ (is : (k ≡ length xs) × (x ≡ y)). inr (ap (λ n. suc n) is.0, is.1)) (slice_get-push xs x k y h)
+-- a place within a list has an element
+pub there_is : {A : Type 0} (xs : List A) (n : ℕ) → n < length xs → (x : A) × (slice_get xs n ≡ Some x)
+there_is [] n within = absurd (omega arith)
+there_is (x ∷ xs) zero within = (x, refl)
+there_is (x ∷ xs) (suc n) within = there_is xs n (omega (arith, within))
 
 -- what stood in it stays, and the one more stands last
 pub slice_get-before : {A : Type 0} (xs : List A) (x : A) (k : ℕ) → k < length xs → slice_get (xs ++ x ∷ []) k ≡ slice_get xs k

@@ -2,7 +2,7 @@
 use Rattle.std.proofs.Common.{◌≡◌, ◌≢◌, ℕ, zero, suc, ◌+◌, ◌<◌, Bool, true, false, List, [], ◌∷◌, ◌++◌, length, Option, Some, None, refl, sym, ap, subst, ◌∙◌, ⊎_elim, arith}
 use Rattle.std.specs.Prelude.{All, slice_get}
 use Rattle.std.proofs.lemmas.Bool.{cases_eq}
-use Rattle.queue.proofs.Pairs.{slice_get-push}
+use Rattle.queue.proofs.Answering.{slice_get-push}
 use Rattle.curve.specs.Known.{Known, all_known}
 use Rattle.curve.specs.Triple.{Triple, Triples}
 use Rattle.interp.specs.Answer.{Answer, Says, Wants}

@@ -1,5 +1,5 @@
 -- Answers that are known before jobs are run.
-use Rattle.std.specs.Prelude.{◌≡◌, ℕ, Bool, List, Option, Some, IsSome, slice_get}
+use Rattle.std.specs.Prelude.{◌≡◌, ℕ, Bool, true, List, Option, Some, IsSome, slice_get}
 use Rattle.std.specs.Option.{option_and_then}
 use Rattle.interp.specs.Answer.{Answer, Says}
 use Rattle.interp.specs.Question.{Question, question_of}
@@ -28,3 +28,17 @@ AreAllKnown verdicts jobs known =
 -- where an answer of a job is known, it is the verdict
 abbrev pub AreKnown : (ℕ → Answer Bool) → List (Option Bool) → Type 0
 AreKnown verdict answers = (place : ℕ) (answer : Bool) → slice_get answers place ≡ Some (Some answer) → verdict place ≡ Says answer
+
+-- ---- what early verdicts want
+
+-- the job at a place is what these verdicts were asked at that place, if there is a job
+abbrev pub IsAskedAt : Answered → List Job → ℕ → Type 0
+IsAskedAt own jobs place = (job : Job) → slice_get jobs place ≡ Some job → slice_get (questions own.batch) place ≡ Some (question_of job)
+
+-- so is each job that is marked
+abbrev pub AreAllAsked : Answered → List Job → List Bool → Type 0
+AreAllAsked own jobs marks = (place : ℕ) → slice_get marks place ≡ Some true → IsAskedAt own jobs place
+
+-- of the first of some lists of verdicts
+abbrev pub AreAskedAt : List Answered → List Job → List Bool → Type 0
+AreAskedAt verdicts jobs marks = (own : Answered) → slice_get verdicts 0 ≡ Some own → AreAllAsked own jobs marks

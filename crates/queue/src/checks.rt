@@ -1,10 +1,11 @@
 //! What the workers go through: places, each with a verdict.
 
 ghost use Rattle.std.specs.Prelude.{◌≡◌, ℕ, ◌<◌, Bool, IfOk, IfSome, None, Option};
-ghost use Rattle.interp.specs.Answer.{Answer, Says};
+ghost use Rattle.interp.specs.Answer.{Answer, Says, Wants};
 ghost use Rattle.queue.specs.Ahead.{answer_of};
 
 use crate::verdict::Verdict;
+use curve::KeptTriple;
 use std::alloc::Global;
 use wire::Memory;
 
@@ -27,6 +28,15 @@ pub trait Places {
         requires { place < count self.now }
         ensures value { result ≡ known_at self.now place }
         ensures right { IfSome result (λ answer. verdict self.now place ≡ Says answer) };
+
+    /// The signature that a place wants, where that was found out before and nothing is known of it still.
+    fn wanted(&self, place: usize) -> Option<&KeptTriple>
+        requires { place < count self.now }
+        ensures { IfSome result (λ t. verdict self.now place ≡ Wants t.now) };
+
+    /// How much there is to do at a place, roughly, in bytes of scripts.
+    fn weight(&self, place: usize) -> usize
+        requires { place < count self.now };
 
     /// The verdict on a place, of which no answer is known.
     fn judge(&self, alloc: Global, place: usize) -> Result<Verdict, Memory>

@@ -145,19 +145,25 @@ fn gather<C: Places>(
     Ok(all)
 }
 
-/// How many workers have something to run: no more than there are, and than places whose answer isn't known.
-fn busy_workers<C: Places>(list: &C, workers: usize) -> usize
+/// So much a worker has to run at least, of what places weigh: starting a thread costs as much as some eight payments' scripts.
+const FOR_EACH_WORKER: usize = 2_000;
+
+/// How many workers have something to run: no more than there are, than places whose answer isn't known, and than have enough
+/// to run that it is worth starting them.
+pub(crate) fn busy_workers<C: Places>(list: &C, workers: usize) -> usize
     ensures most { result ≤ workers }
     ensures places { result ≤ C.count list.now }
 {
     let mut left = 0;
+    let mut weight: usize = 0;
     for place in 0..list.count_places() {
-        if left >= workers {
+        if left.min(weight / FOR_EACH_WORKER) >= workers {
             return workers;
         }
         if list.known(place).is_none() {
             left += 1;
+            weight = weight.saturating_add(list.weight(place));
         }
     }
-    left
+    workers.min(left.min(weight / FOR_EACH_WORKER))
 }

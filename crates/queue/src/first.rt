@@ -5,6 +5,7 @@ ghost use Rattle.queue.specs.Jobs.{AreNumbered, HasInput, IsEarly, verdict_at};
 ghost use Rattle.queue.specs.Telling.{Told};
 ghost use Rattle.queue.specs.inside.Walking.{Walked};
 
+use crate::asked::asked_jobs;
 use crate::crew::Crew;
 use crate::found::Found;
 use crate::gate::Gate;
@@ -69,12 +70,14 @@ fn walked<S: Judges, C: Crew<S>>(
         (verdict_at (S.known runs.now.by.now) jobs.now) walk.end walk.wants.items) }
 {
     let known = known_answers(alloc, jobs, numbers, runs.early, runs.by)?;
+    let asked = asked_jobs(alloc, jobs, numbers, runs.early)?;
     let list = JobList {
         jobs,
         count: first_no(jobs.len(), &known),
         by: runs.by,
         early: runs.early,
         known: &known,
+        asked: &asked,
     };
     let Found { accepted, others } = runs.crew.run_ahead(alloc, &list, runs.workers, gate)?;
     let slots = slots_of(alloc, &list, others, list.count)?;

@@ -2,13 +2,14 @@
 
 ghost use Rattle.std.specs.Prelude.{◌≡◌, ◌≤◌, All, length};
 ghost use Rattle.std.proofs.Props.{props};
-ghost use Rattle.queue.specs.Jobs.{HasInput, verdict_at};
-ghost use Rattle.queue.specs.Early.{AreAllKnown, AreKnown, answer_at};
+ghost use Rattle.queue.specs.Jobs.{HasInput, IsEarly, verdict_at};
+ghost use Rattle.queue.specs.Early.{AreAllKnown, AreAskedAt, AreKnown, answer_at};
 
 use crate::checks::Places;
 use crate::judges::Judges;
 use crate::verdict::Verdict;
 use crate::verdicts::Verdicts;
+use curve::KeptTriple;
 use interp::{Job, Unverified, verify_with};
 use std::alloc::Global;
 use wire::Memory;
@@ -23,12 +24,19 @@ pub struct JobList<'a, S: Judges> {
     /// Verdicts that were got before.
     pub early: &'a [Verdicts<'a>],
     pub known: &'a [Option<bool>],
+    /// Of each job whether the first of those verdicts has it at the same place; it may end before the list does.
+    pub asked: &'a [bool],
     pub ghost inside: { count ≤ length jobs.now },
     pub ghost right: { AreKnown (verdict_at (S.known by.now) jobs.now) known.now } by { Prim.hlevel props },
     // Each job that an early verdict fits has its answer, so none of them is run.
     pub ghost all: { AreAllKnown early.now jobs.now known.now } by { Prim.hlevel props },
     pub ghost inputs: { All HasInput jobs.now } by { Prim.hlevel props },
+    pub ghost before: { All (IsEarly (S.known by.now)) early.now } by { Prim.hlevel props },
+    pub ghost at_place: { AreAskedAt early.now jobs.now asked.now } by { Prim.hlevel props },
 }
+
+/// What a job weighs besides its scripts.
+const OF_EACH_JOB: usize = 128;
 
 impl<'a, S: Judges> Places for JobList<'a, S> {
     ghost count = { λ list. list.count };
@@ -43,6 +51,31 @@ impl<'a, S: Judges> Places for JobList<'a, S> {
 
     fn known(&self, place: usize) -> Option<bool> {
         *self.known.get(place)?
+    }
+
+    fn wanted(&self, place: usize) -> Option<&KeptTriple> {
+        if !*self.asked.get(place)? {
+            return None;
+        }
+        let triple = self.early.first()?.want(place)?;
+        match self
+            .by
+            .find(triple.key(), triple.signature(), triple.digest())
+        {
+            Some(_) => None,
+            None => Some(triple),
+        }
+    }
+
+    fn weight(&self, place: usize) -> usize {
+        let job = &self.jobs[place];
+        let own = match job.tx.inputs.as_slice().get(job.input) {
+            Some(input) => input.script.as_slice().len(),
+            None => 0,
+        };
+        OF_EACH_JOB
+            .saturating_add(job.spent.len())
+            .saturating_add(own)
     }
 
     fn judge(&self, alloc: Global, place: usize) -> Result<Verdict, Memory> {

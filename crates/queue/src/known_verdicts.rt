@@ -103,7 +103,7 @@ fn answer_in<S: Judges>(index: &Index, slot: Option<Slot>, job: &Job, by: &S) ->
 }
 
 /// Whether the number at a place equals the one before it.
-fn goes_on(numbers: &[usize], place: usize) -> bool
+pub(crate) fn goes_on(numbers: &[usize], place: usize) -> bool
     ensures { IsTrue result → (number : ℕ) × (1 ≤ place) ×
         (slice_get numbers.now (place - 1) ≡ Some number) ×
         (slice_get numbers.now place ≡ Some number) }

@@ -1,6 +1,7 @@
 //! Script checks on several threads: the least job of a list that isn't accepted.
 #![tactic(auto)]
 
+mod asked;
 mod checks;
 mod claimed_places;
 mod crew;

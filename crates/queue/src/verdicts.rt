@@ -5,6 +5,7 @@ ghost use Rattle.std.specs.Option.{IfNone};
 
 use crate::early_jobs::EarlyJobs;
 use crate::source::Source;
+use curve::KeptTriple;
 use interp::Job;
 use std::marker::Model;
 
@@ -16,6 +17,8 @@ pub struct Verdicts<'t> {
     jobs: EarlyJobs<'t>,
     by: Source<'t>,
     answers: Vec<Option<bool>>,
+    /// Of each job the signature that it wants, if it wants one.
+    wants: Vec<Option<Box<KeptTriple>>>,
 }
 
 impl<'t> Model for Verdicts<'t> {
@@ -25,6 +28,7 @@ impl<'t> Model for Verdicts<'t> {
     ghost use Rattle.curve.specs.Known.{coded_verdicts};
     ghost use Rattle.curve.specs.Triple.{triple_cmp, coded_triple};
     ghost use Rattle.queue.specs.Jobs.{Answered, answers_to, known_of, questions};
+    ghost use Rattle.queue.specs.inside.Pairing.{AreTheirWants};
 
     ghost Value = { Answered };
 
@@ -32,24 +36,35 @@ impl<'t> Model for Verdicts<'t> {
 
     ghost view = { λ v. record { batch = v.jobs; by = v.by } };
 
-    ghost invariant = { λ v. v.answers.items ≡ answers_to (known_of v.by) (questions v.jobs) };
+    ghost invariant = { λ v. (v.answers.items ≡ answers_to (known_of v.by) (questions v.jobs))
+        × AreTheirWants (known_of v.by) (questions v.jobs) v.wants.items };
 }
 
 impl<'t> Verdicts<'t> {
-    ghost use Rattle.interp.specs.Question.{question_of};
+    ghost use Rattle.interp.specs.Answer.{Wants};
+    ghost use Rattle.interp.specs.Question.{Question, question_of};
+    ghost use Rattle.interp.specs.computed.Step.{verdict};
     ghost use Rattle.queue.specs.Early.{answer_at};
     ghost use Rattle.queue.specs.Jobs.{answers_to, known_of, known_then, questions};
+    ghost use Rattle.queue.specs.inside.Pairing.{AreTheirWants};
 
-    /// The verdicts with these answers.
+    /// The verdicts with these answers and wants.
     pub(crate) fn of(
         jobs: EarlyJobs<'t>,
         by: Source<'t>,
         answers: Vec<Option<bool>>,
+        wants: Vec<Option<Box<KeptTriple>>>,
     ) -> Verdicts<'t>
-        requires { answers.items ≡ answers_to (known_of by) (questions jobs) }
+        requires answers { answers.items ≡ answers_to (known_of by) (questions jobs) }
+        requires wants { AreTheirWants (known_of by) (questions jobs) wants.items }
         ensures { result ≡ record { batch = jobs.entry; by = by.entry } }
     {
-        Verdicts { jobs, by, answers }
+        Verdicts {
+            jobs,
+            by,
+            answers,
+            wants,
+        }
     }
 
     /// Whether each job is accepted, in order; none where a signature was unknown.
@@ -65,6 +80,22 @@ impl<'t> Verdicts<'t> {
             result ≡ answer_at (answers_to (known_then self.now) asked) place }
     {
         *self.answers.get(place)?
+    }
+
+    /// The signature that the job at a place wants, if it was found to want one.
+    pub(crate) fn want(&self, place: usize) -> Option<&KeptTriple>
+        ensures { (q : Question) → slice_get (questions self.now.batch) place ≡ Some q →
+            IfSome result (λ t. verdict (known_then self.now) q ≡ Wants t.now) }
+    {
+        match self.wants.get(place)? {
+            Some(triple) => Some(triple.as_ref()),
+            None => None,
+        }
+    }
+
+    /// Whether a job was found to want a signature.
+    pub(crate) fn has_wants(&self) -> bool {
+        self.wants.iter().any(|want| want.is_some())
     }
 
     /// Whether the verdict at a place fits a job: whether it was asked of an equal transaction, for the same input, which

@@ -1,6 +1,6 @@
 //! The caller's walk over a list, which is the answer.
 
-ghost use Rattle.std.specs.Prelude.{◌≡◌, ◌<◌, IfOk, IfSome};
+ghost use Rattle.std.specs.Prelude.{◌≡◌, ◌<◌, IfOk, IfSome, vec_len};
 ghost use Rattle.queue.specs.Telling.{NoneRefused};
 ghost use Rattle.queue.specs.Ahead.{AreAccepted, AreOf, answer_of};
 ghost use Rattle.queue.specs.inside.Walking.{AreRight, Walked};
@@ -81,7 +81,11 @@ fn verdict<G: Gate, C: Places>(
 }
 
 /// Takes the verdict that was found on a place out of its slot.
-fn take<C: Places>(_list: &C, slots: &mut Vec<Option<Verdict>>, place: usize) -> Option<Verdict>
+pub(crate) fn take<C: Places>(
+    _list: &C,
+    slots: &mut Vec<Option<Verdict>>,
+    place: usize,
+) -> Option<Verdict>
     requires { AreRight (C.verdict _list.now) slots.old.items }
     ensures verdict { IfSome result (λ v. C.verdict _list.now place ≡ answer_of v) }
     ensures slots { AreRight (C.verdict _list.now) slots.new.items }
@@ -114,12 +118,13 @@ pub fn slots_of<C: Places>(
 }
 
 /// So many slots without a verdict.
-fn empty_slots<C: Places>(
+pub(crate) fn empty_slots<C: Places>(
     alloc: Global,
     _list: &C,
     count: usize,
 ) -> Result<Vec<Option<Verdict>>, Memory>
-    ensures { IfOk result (λ slots. AreRight (C.verdict _list.now) slots.items) }
+    ensures len { IfOk result (λ slots. vec_len slots ≡ count) }
+    ensures right { IfOk result (λ slots. AreRight (C.verdict _list.now) slots.items) }
 {
     let mut slots = Vec::with_capacity(alloc, count)?;
     for _ in 0..count {

@@ -74,7 +74,7 @@ fn work_between<G: Gate, C: Places>(
     Ok(())
 }
 
-/// Runs a place whose answer isn't known, with the gate round it.
+/// Runs a place whose answer isn't known, with the gate round it. One that still wants a signature isn't run again.
 pub(crate) fn run<G: Gate, C: Places>(
     alloc: Global,
     list: &C,
@@ -85,6 +85,9 @@ pub(crate) fn run<G: Gate, C: Places>(
     requires unknown { C.known_at list.now place ≡ None }
     ensures { IfOk result (λ v. C.verdict list.now place ≡ answer_of v) }
 {
+    if let Some(triple) = list.wanted(place) {
+        return Ok(Verdict::Wants(Box::new(alloc, triple.copy()?)?));
+    }
     gate.begin(place);
     let verdict = list.judge(alloc, place);
     gate.end(place);

@@ -15,7 +15,9 @@ pub struct Lacking {
 
 impl Lacking {
     /// Behind this many entries.
-    pub fn new(alloc: Global, taken: u64) -> Lacking {
+    pub fn new(alloc: Global, taken: u64) -> Lacking
+        ensures { (result.taken ≡ taken) × (result.entries.items ≡ []) }
+    {
         Lacking {
             taken,
             entries: Vec::new(alloc),

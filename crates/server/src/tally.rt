@@ -1,5 +1,7 @@
 //! How many values a line has, counted while it comes in.
 
+ghost use Rattle.std.specs.Prelude.{◌≡◌, false, nat_lt};
+
 use memchr::memchr2;
 
 /// How many values a line may have. A request has some ten.
@@ -17,7 +19,10 @@ pub struct Tally {
 
 impl Tally {
     /// Of a line of which nothing has come in.
-    pub fn new() -> Tally {
+    pub fn new() -> Tally
+        ensures values { result.values ≡ 0 }
+        ensures outside { (result.is_in_string ≡ false) × (result.is_escaped ≡ false) }
+    {
         Tally {
             values: 0,
             is_in_string: false,
@@ -59,7 +64,9 @@ impl Tally {
     }
 
     /// Whether the line has more values than a line may have.
-    pub fn is_above(&self) -> bool {
+    pub fn is_above(&self) -> bool
+        ensures { result ≡ nat_lt 1000 self.now.values }
+    {
         self.values > MAX_VALUES
     }
 }

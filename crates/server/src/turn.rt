@@ -30,7 +30,9 @@ pub enum Ask {
 }
 
 impl Turn {
-    pub fn new(alloc: Global, id: RequestId, ask: Ask) -> Result<Turn, AllocError> {
+    pub fn new(alloc: Global, id: RequestId, ask: Ask) -> Result<Turn, AllocError>
+        ensures { IfOk result (λ turn. (turn.ask ≡ ask) × (turn.blank ≡ id)) }
+    {
         let blank = Blank::new(alloc, id)?;
         Ok(Turn { ask, blank })
     }

@@ -1,6 +1,6 @@
 //! The memory that submissions take in the history which aren't kept: refused and repeated ones.
 
-ghost use Rattle.std.specs.Prelude.{◌≡◌};
+ghost use Rattle.std.specs.Prelude.{◌≡◌, ◌+◌, ◌-◌, ◌^◌, min, if◌then◌else◌};
 ghost use Rattle.server.specs.inside.Brought.{is_kept as is_kept_by};
 
 use node::SubmitReply;
@@ -48,7 +48,9 @@ impl Waste {
 }
 
 /// What a submission of so many bytes takes of the history that isn't kept; 0 where it is.
-pub fn taken_by(reply: SubmitReply, bytes: usize) -> u64 {
+pub fn taken_by(reply: SubmitReply, bytes: usize) -> u64
+    ensures { result ≡ (if is_kept_by reply then 0 else min (300 + bytes) (2 ^ 64 - 1)) }
+{
     if is_kept(reply) {
         0
     } else {

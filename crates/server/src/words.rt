@@ -1,5 +1,7 @@
 //! What is said of a served node and its seats.
 
+ghost use Rattle.std.specs.Prelude.{◌≡◌};
+
 use console::options::{NAME, VERSION};
 use console::report::Clients;
 use curve::Table;
@@ -42,7 +44,13 @@ pub struct Facts<'t> {
 
 impl Facts<'_> {
     /// How the node was opened.
-    pub fn info(&self) -> Info<'static> {
+    pub fn info(&self) -> Info<'static>
+        ensures seats { (result.seats ≡ self.now.seats) × (result.workers ≡ self.now.workers)
+            × (result.loaded ≡ self.now.loaded) }
+        ensures heights { let params = self.now.params in
+            (result.bip34 ≡ params.bip34) × (result.bip65 ≡ params.bip65)
+            × (result.bip66 ≡ params.bip66) × (result.csv ≡ params.csv) }
+    {
         let Params {
             bip34,
             bip65,

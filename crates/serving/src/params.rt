@@ -1,6 +1,8 @@
 //! The parameters of a request.
 
-ghost use Rattle.std.specs.Prelude.{◌≡◌, ◌⊎◌, ℕ, List, Option, option_map, IfOk, IfErr};
+ghost use Rattle.std.specs.Prelude.{◌≡◌, ◌⊎◌, ℕ, List, Option, option_map, IfOk, IfErr, OnOk};
+ghost use Rattle.std.specs.List.{All};
+ghost use Rattle.curve.specs.Lines.{lines, IsFaultOf, IsReadable};
 ghost use Rattle.json.specs.Value.{value_view};
 ghost use Rattle.hash.specs.declared.id.Id.{Id as AnyId};
 ghost use Rattle.txn.specs.declared.outpoint.OutPoint.{OutPoint as AnyOutPoint};
@@ -9,7 +11,7 @@ ghost use Rattle.serving.specs.inside.Given.{given, IsParam};
 ghost use Rattle.serving.specs.declared.refusal.Refusal.TheVariants as refusals;
 
 use crate::refusal::Refusal;
-use curve::{Table, TableFault};
+use curve::{TableFault, read_line};
 use hash::Id;
 use hex::FromHexError;
 use json::Value;
@@ -88,8 +90,8 @@ impl<'p, 'l> Params<'p, 'l> {
     {
         let found = self.get(name).ok_or(Refusal::Param(name))?;
         let text = found.as_str().ok_or(Refusal::Param(name))?;
-        match Table::from_lines(alloc, text.as_bytes()) {
-            Ok(_) => match Vec::from_slice(alloc, text.as_bytes()) {
+        match check_lines(alloc, text.as_bytes()) {
+            Ok(()) => match Vec::from_slice(alloc, text.as_bytes()) {
                 Ok(bytes) => Ok(bytes),
                 Err(_) => Err(Refusal::Memory),
             },
@@ -132,4 +134,17 @@ impl<'p, 'l> Params<'p, 'l> {
             Err(refusal) => Err(refusal),
         }
     }
+}
+
+/// Sees that each line of a text can be read as one of a table. No table is made of them: the node takes them one by one.
+fn check_lines(alloc: Global, text: &[u8]) -> Result<(), TableFault>
+    ensures readable { OnOk result (All IsReadable (lines text.now)) }
+    ensures refused { IfErr result (IsFaultOf (lines text.now)) }
+{
+    let mut number = 0;
+    for line in text.split(|byte| *byte == b'\n') {
+        number += 1;
+        read_line(alloc, line, number)?;
+    }
+    Ok(())
 }

@@ -357,7 +357,7 @@ INSIDE = {"addresses.base58", "addresses.data_of", "chainstate.reply_of"} | {
 } | {
     f"served.{name}" for name in (
         "Call", "Opening", "Wanted", "verdicts", "learning", "submission", "dry_run", "mark", "output", "outputs", "block_of", "header_of", "hash_at", "coins_above", "longer_than",
-        "ancestor_of", "fork_of", "spent_by", "moving", "entries", "told", "request", "checked", "outcome",
+        "ancestor_of", "fork_of", "spent_by", "moving", "entries", "told", "parted", "request", "checked", "outcome", "outcome_behind",
         "died", "read_answer",
     )
 }  # fmt: skip

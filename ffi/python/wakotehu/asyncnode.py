@@ -14,7 +14,8 @@ from .chainstate import BlockHeader, Coin, Moved, Reply, Tip
 from .served import (
     BEST, FINISH, INFO, KEPT, MOST, NOTE, SAVE, TIMEOUT, TIPS, UNDER_WAY, Call, Entry, Info, Opening,
     Stamped, UnspentOutput, Wanted, ancestor_of, block_of, checked, coins_above, died, dry_run, entries, fork_of, hash_at,
-    header_of, longer_than, mark, moving, outcome, output, outputs, read_answer, request, spent_by, submission, told, verdicts,
+    header_of, longer_than, mark, moving, outcome, outcome_behind, output, outputs, parted, read_answer, request, spent_by,
+    submission, told, verdicts,
 )  # fmt: skip
 from .signatures import Verify
 
@@ -134,9 +135,9 @@ class _Pipe(asyncio.SubprocessProtocol):
             self._next += 1
             number = self._next * _KINDS + kind
             waiting[number] = asked
-            line = request(number, asked.call, asked.seat)
-            self._lines.append(line)
-            if len(line) > _PIECE:
+            parts = request(number, asked.call, asked.seat)
+            self._lines += parts
+            if sum(map(len, parts)) > _PIECE:
                 self._write()
             elif not self._will_write:
                 self._will_write = True
@@ -172,7 +173,8 @@ class _Pipe(asyncio.SubprocessProtocol):
             return
         self._received.append(data)
         if b"\n" in data:
-            *lines, rest = b"".join(self._received).split(b"\n")
+            *lines, rest = data.split(b"\n")
+            lines[0] = b"".join([*self._received[:-1], lines[0]])
             self._received = [rest] if rest else []
             for line in lines:
                 self._hand_out(line)
@@ -246,6 +248,13 @@ class _Pipe(asyncio.SubprocessProtocol):
         return True
 
 
+def _let_go(answers: "Sequence[asyncio.Future[Dict[str, Any]]]") -> None:
+    """Where one is refused, or the call is cancelled, nobody waits for the others."""
+    for answer in answers:
+        if not answer.cancel() and not answer.cancelled():
+            answer.exception()
+
+
 class AsyncSeat:
     """As `Seat`, each call a coroutine."""
 
@@ -258,15 +267,25 @@ class AsyncSeat:
 
     async def _command(self, call: Call) -> Any:
         """As `Seat._command`. Signatures are verified by a thread of the event loop's."""
-        while True:
-            try:
-                return await self._ask(call)
-            except Wanted as wanted:
-                lines = wanted.lines
-            verify = self.node._opening.verify
-            assert verify is not None
-            for told in await asyncio.get_running_loop().run_in_executor(None, verdicts, lines, verify):
-                await self._ask(told)
+        pipe, verify = self.node._opened(), self.node._opening.verify
+        calls, asked = [call], [pipe.begun(call, self.number)]
+        try:
+            while True:
+                answers = [await answer for answer in asked]
+                try:
+                    return outcome_behind(answers, calls)
+                except Wanted as wanted:
+                    lines = wanted.lines
+                assert verify is not None
+                calls, asked = [], []
+                for part in parted(lines):
+                    for one in await pipe.loop.run_in_executor(None, verdicts, part, verify):
+                        calls.append(one)
+                        asked.append(pipe.begun(one, self.number))
+                calls.append(call)
+                asked.append(pipe.begun(call, self.number))
+        finally:
+            _let_go(asked)
 
     async def submit(self, block: bytes, now: Optional[int] = None) -> Stamped[str]:
         """As `Seat.submit`."""
@@ -311,10 +330,7 @@ class AsyncSeat:
         try:
             return [outcome(await answer, call) for answer, call in zip(answers, calls)]
         finally:
-            # Where one is refused, or the call is cancelled, nobody waits for the others.
-            for answer in answers:
-                if not answer.cancel() and not answer.cancelled():
-                    answer.exception()
+            _let_go(answers)
 
     async def getbestblockhash(self) -> Stamped[bytes]:
         """As `Seat.getbestblockhash`."""

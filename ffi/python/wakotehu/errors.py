@@ -7,6 +7,7 @@ if TYPE_CHECKING:
 
     from .chainstate import Reply
     from .consensus import Triple
+    from .served import Stamped
 
 
 class Error(Exception):
@@ -133,7 +134,10 @@ class Wants(Error):
 
 
 class Contradiction(Error):
-    """A verdict on a signature contradicts one that is known, which stays."""
+    """A verdict on a signature contradicts one that is known, which stays. `answered` is what a node answered to the command
+    whose scripts asked for it, where it was taken all the same; else None."""
+
+    answered: "Optional[Stamped[Reply]]" = None
 
 
 class BadTable(Error):

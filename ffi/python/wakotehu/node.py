@@ -17,7 +17,8 @@ from .pipe import Pipe
 from .served import (
     BEST, FINISH, INFO, NOTE, SAVE, TIMEOUT, TIPS, UNDER_WAY, Call, Entry, Info, Opening, Stamped,
     UnspentOutput, Wanted, ancestor_of, block_of, checked, coins_above, dry_run, entries, fork_of, hash_at, header_of,
-    learning, longer_than, mark, moving, output, outputs, program_path, spent_by, submission, told, verdicts,
+    learning, longer_than, mark, moving, outcome_behind, output, outputs, parted, program_path, spent_by, submission, told,
+    verdicts,
 )  # fmt: skip
 from .signatures import Verify
 
@@ -40,14 +41,23 @@ class Seat:
         return self.node._pipe.ask(call, self.number)
 
     def _command(self, call: Call) -> Any:
-        """Makes a command. Where it wants signatures, finds out which are valid, tells the node, and makes it again."""
+        """Makes a command. Where it wants signatures, finds out which are valid, tells the node, and makes it again. It
+        reports some while it finds out the next ones, and the node reads the command while it learns the last ones."""
+        node, pipe = self.node, self.node._pipe
+        calls, asked = [call], pipe.begun([call], self.number)
         while True:
             try:
-                return self._ask(call)
+                return outcome_behind(pipe.answers(asked), calls)
             except Wanted as wanted:
                 lines = wanted.lines
-            assert self.node._verify is not None
-            self.node._pipe.ask_all(verdicts(lines, self.node._verify), self.number)
+            assert node._verify is not None
+            calls, asked = [], []
+            for part in parted(lines) if node._is_parted else [lines]:
+                for one in verdicts(part, node._verify):
+                    calls.append(one)
+                    asked += pipe.begun([one], self.number)
+            calls.append(call)
+            asked += pipe.begun([call], self.number)
 
     def _learn(self, lines: Sequence[bytes], found: Sequence[bool]) -> None:
         """Tells the node verdicts that it didn't ask for."""
@@ -197,7 +207,7 @@ class Seat:
 class Node:
     """A node of 1 to 16 seats in a process of its own.
 
-    seats, workers: 1 to 16 each; so many threads check a block's scripts.
+    seats, workers: 1 to 16 each; at most so many threads check a block's scripts.
     heights: from which heights BIPs 34, 65, 66 and 68 with 112 and 113 are in force; regtest's by default.
     table: the valid signatures, as lines of a key, a signature without its hash type and a digest, in hexadecimal and
         parted by spaces. No other signature is valid.
@@ -207,7 +217,8 @@ class Node:
     save: the folder into which the history is saved at the end; it may be the same. It is made where it isn't there.
     verify: finds out which signatures are valid, as scripts ask for them, in place of a table: `secp256k1`, or a function that
         says of lines as a table's which are. It runs on the threads of those who call `submit` and the marks, while no other
-        call waits for it.
+        call waits for it. Of 400 and more it is asked in parts, of at least 200: one is reported while the next is
+        verified.
     datadir: the folder in which the history is kept, of this node alone. It is made where it isn't there, under these heights
         and this table; else the node goes on from it, and None of them stands for what it has. An answer comes when its
         steps are on the disk: however the process or the machine ends, nothing that was answered is lost.
@@ -233,6 +244,8 @@ class Node:
     ) -> None:  # fmt: skip
         opening = Opening(seats, workers, heights, table, program, blk, load, save, datadir, sync, timeout, verify, history_memory)
         self._verify = opening.verify
+        #: Whether `verify` may be asked for a part of what a command wants.
+        self._is_parted = True
         self._count = opening.seats
         # Seats keep their node, not the other way round: so it is seen at once that nobody has it any more.
         self._kept: Dict[int, "ref[Seat]"] = {}

@@ -87,6 +87,8 @@ class NodeBench(Walks):
         self.node = Node(
             seats, workers, heights, given, program, datadir=datadir, sync=sync, timeout=None, verify=verify
         )
+        # A round is of all that a command wants.
+        self.node._is_parted = False
         self.heights = self.node.info.heights
         if datadir is not None:
             try:

@@ -47,11 +47,20 @@ class Waiter:
 class _Lines:
     """Lines that are being written, who waits for their answers, and how much each write took."""
 
-    __slots__ = ("text", "kind", "waiters", "written")
+    __slots__ = ("parts", "kind", "waiters", "written", "length")
 
-    def __init__(self, text: bytes, kind: int, waiters: Dict[int, Waiter]) -> None:
-        self.text, self.kind, self.waiters = text, kind, waiters
+    def __init__(self, parts: Sequence[bytes], kind: int, waiters: Dict[int, Waiter]) -> None:
+        self.parts, self.kind, self.waiters = parts, kind, waiters
         self.written: List[int] = []
+        self.length = sum(map(len, parts))
+
+    def left(self) -> List[memoryview]:
+        """What isn't written yet."""
+        begin, found = sum(self.written), []
+        for part in self.parts:
+            found.append(memoryview(part)[begin:])
+            begin = max(0, begin - len(part))
+        return found
 
 
 #: A fork has copies of the pipes, which would keep the processes from seeing that their input has ended.
@@ -125,28 +134,30 @@ class Pipe:
 
     def ask_all(self, calls: Sequence[Call], seat: Optional[int], is_last: bool = False) -> List[Any]:
         """What is answered to calls, of which as many are under way as may be."""
-        self.check_process()
         found: List[Any] = []
         asked: List[List[Waiter]] = []
         for place in range(0, len(calls), _AT_ONCE):
-            asked.append(self._asked(calls[place : place + _AT_ONCE], seat, is_last))
+            asked.append(self.begun(calls[place : place + _AT_ONCE], seat, is_last))
             if len(asked) > 1:
-                found += self._answers(calls[len(found) :], asked.pop(0))
-        return found + [answer for waiters in asked for answer in self._answers(calls[len(found) :], waiters)]
+                found += map(outcome, self.answers(asked.pop(0)), calls[len(found) :])
+        for waiters in asked:
+            found += map(outcome, self.answers(waiters), calls[len(found) :])
+        return found
 
-    def _answers(self, calls: Sequence[Call], waiters: Sequence[Waiter]) -> List[Any]:
+    def answers(self, waiters: Sequence[Waiter]) -> List[Dict[str, Any]]:
         """What those who wait are answered, the last one after all others."""
         until = self._until()
         for waiter in reversed(waiters):
             if waiter.answer is None:
                 self._wait(waiter, lambda: waiter.answer is not None, until)
-        return [outcome(waiter.answer or {}, call) for waiter, call in zip(waiters, calls)]
+        return [waiter.answer or {} for waiter in waiters]
 
     def _until(self) -> Optional[float]:
         return None if self.timeout is None else time.monotonic() + self.timeout
 
-    def _asked(self, calls: Sequence[Call], seat: Optional[int], is_last: bool) -> List[Waiter]:
+    def begun(self, calls: Sequence[Call], seat: Optional[int], is_last: bool = False) -> List[Waiter]:
         """Writes requests as soon as so many may be under way: who waits for their answers."""
+        self.check_process()
         until, kind = self._until(), 0 if seat is None else seat + 1
         waiters = [Waiter() for _ in calls]
         while not self._begun(waiters, calls, seat, until, is_last):
@@ -174,8 +185,8 @@ class Pipe:
             first = self._next + 1
             self._next += len(calls)
             numbers = range(first * _KINDS + kind, (self._next + 1) * _KINDS, _KINDS)
-            text = b"".join([request(number, call, seat) for number, call in zip(numbers, calls)])
-            lines = _Lines(text, kind, dict(zip(numbers, waiters)))
+            parts = [part for number, call in zip(numbers, calls) for part in request(number, call, seat)]
+            lines = _Lines(parts, kind, dict(zip(numbers, waiters)))
             try:
                 self._lines = lines
                 self._write(until)
@@ -195,10 +206,10 @@ class Pipe:
             return
         if not sum(lines.written):
             self._waiting[lines.kind].update(lines.waiters)
-        while (begin := sum(lines.written)) < len(lines.text):
+        while sum(lines.written) < lines.length:
             try:
                 # One step of C, which an interrupt doesn't part.
-                lines.written.extend(map(os.write, (self._in,), (memoryview(lines.text)[begin:],)))
+                lines.written.extend(map(os.writev, (self._in,), (lines.left(),)))
             except BlockingIOError:
                 self._writable.poll(_milliseconds(_left(until)))
             except OSError:
@@ -253,7 +264,8 @@ class Pipe:
         if not self._received[-1]:
             self._end_of_answers()
         elif b"\n" in self._received[-1]:
-            *lines, rest = b"".join(self._received).split(b"\n")
+            *lines, rest = self._received[-1].split(b"\n")
+            lines[0] = b"".join([*self._received[:-1], lines[0]])
             for line in lines:
                 self._hand_out(line)
             self._looked_at = 0

@@ -5,6 +5,8 @@ import os
 import re
 import shutil
 import tempfile
+from binascii import hexlify
+from itertools import compress
 from typing import (
     IO, Any, Callable, Dict, Generator, Generic, List, NamedTuple, Optional, Sequence, Tuple, Type, TypeVar, Union,
 )  # fmt: skip
@@ -29,6 +31,8 @@ TIMEOUT = 60.0
 KEPT = 2000
 #: So many verdicts are told by a request at most, whose line is then no longer than the program reads.
 _VERDICTS = 50_000
+#: In so many parts signatures are verified, of so many at least: a part is reported while the next one is verified.
+_PARTS, _LEAST = 4, 200
 
 
 class Stamped(Generic[T]):
@@ -94,11 +98,13 @@ class Wanted(Exception):
 
 
 class Call(NamedTuple):
-    """A call of a seat: its method, its parameters behind the seat's as JSON, and how its result is read."""
+    """A call of a seat: its method, its parameters behind the seat's as JSON, and how its result is read. Where the last of them is
+    a long text, its characters are in `text`, which isn't copied; `params` then ends with that text's first quote."""
 
     method: str
     params: str
     read: Callable[[Dict[str, Any]], Any]
+    text: Optional[bytes] = None
 
 
 def _reply_of(text: str) -> Reply:
@@ -116,7 +122,7 @@ def _read_id(digits: str) -> bytes:
 
 def _read_reply(result: Dict[str, Any]) -> Stamped[Reply]:
     if isinstance(result["answer"], dict):
-        raise Wanted([line.encode() for line in result["answer"]["wants"]])
+        raise Wanted([it if isinstance(it, bytes) else it.encode() for it in result["answer"]["wants"]])
     return Stamped(result["at"], _reply_of(result["answer"]))
 
 
@@ -214,7 +220,7 @@ def _of_block(method: str, block: bytes, now: Optional[int]) -> Call:
     data = octets(block, "block")
     if len(data) > LONGEST_BLOCK:
         raise ValueError(f"block must have at most {LONGEST_BLOCK} bytes, not {len(data)}")
-    return Call(method, f',"block":"{data.hex()}","now":{moment_of(now)}', _read_reply)
+    return Call(method, f',"now":{moment_of(now)},"block":"', _read_reply, hexlify(data))
 
 
 def mark(command: str, id: bytes) -> Call:
@@ -278,6 +284,13 @@ def told(other: int) -> Call:
     return Call("told", f',"from":{other}', _read_place)
 
 
+def parted(lines: Sequence[bytes]) -> List[Sequence[bytes]]:
+    """The parts in which signatures are verified: one where they are few."""
+    count = min(_PARTS, max(1, len(lines) // _LEAST))
+    ends = [len(lines) * part // count for part in range(count + 1)]
+    return [lines[begin:end] for begin, end in zip(ends, ends[1:])]
+
+
 def verdicts(lines: Sequence[bytes], verify: Verify) -> List[Call]:
     """What a node is told of signatures."""
     found = [bool(verdict) for verdict in verify(lines)]
@@ -296,10 +309,9 @@ def learning(lines: Sequence[bytes], found: Sequence[bool]) -> List[Call]:
 
 def _learning(lines: Sequence[bytes], found: Sequence[bool]) -> Call:
     # The lines have digits, spaces and bars alone.
-    valid, invalid = (
-        "\\n".join(line.decode() for line, verdict in zip(lines, found) if verdict is wanted) for wanted in (True, False)
-    )
-    return Call("learn", f',"valid":"{valid}","invalid":"{invalid}"', _read_learnt)
+    valid = lines if all(found) else list(compress(lines, found))
+    invalid = b"\\n".join(line for line, verdict in zip(lines, found) if not verdict)
+    return Call("learn", f',"invalid":"{invalid.decode()}","valid":"', _read_learnt, b"\\n".join(valid))
 
 
 BEST = Call("getbestblockhash", "", _read_best)
@@ -339,17 +351,25 @@ def _above(id: bytes, fork: bytes) -> Asking[List[bytes]]:
     return found
 
 
-def request(id: int, call: Call, seat: Optional[int]) -> bytes:
-    """A line that asks for a call of a seat, or of none."""
+def request(id: int, call: Call, seat: Optional[int]) -> List[bytes]:
+    """The parts of a line that asks for a call of a seat, or of none."""
     params = "" if seat is None else f'"seat":{seat}{call.params}'
-    return f'{{"jsonrpc":"2.0","id":{id},"method":"{call.method}","params":{{{params}}}}}\n'.encode()
+    begins = f'{{"jsonrpc":"2.0","id":{id},"method":"{call.method}","params":{{{params}'.encode()
+    return [begins + b"}}\n"] if call.text is None else [begins, call.text, b'"}}\n']
 
 
 _decoder = json.JSONDecoder()
+#: How an answer begins that wants signatures, and each of its lines, which have digits, spaces and bars alone.
+_WANTS = re.compile(rb'\{"jsonrpc":"2\.0","id":(\d+),"result":\{"at":(\d+),"answer":\{"wants":\[')
+_WANTED = re.compile(rb'"([^"]*)"')
 
 
 def read_answer(line: bytes) -> Dict[str, Any]:
-    """The object of a line. What isn't JSON is a `ValueError`."""
+    """The object of a line. What isn't JSON is a `ValueError`. Signatures that are wanted may be many: they stay bytes."""
+    wants = _WANTS.match(line)
+    if wants and line.endswith(b'"]}}}'):
+        lines = _WANTED.findall(line, wants.end())
+        return {"id": int(wants[1]), "result": {"at": int(wants[2]), "answer": {"wants": lines}}}
     text = line.decode()
     found, end = _decoder.raw_decode(text)
     if not isinstance(found, dict) or end != len(text):
@@ -382,6 +402,28 @@ def outcome(answer: Dict[str, Any], call: Call) -> Any:
         raise _FAULTS[error["code"]](error["message"])
     kind = errors.NotSaved if error["code"] == _UNSAVED else errors.BadRequest
     raise kind(error["code"], error["message"], error.get("data"))
+
+
+def outcome_behind(answers: Sequence[Dict[str, Any]], calls: Sequence[Call]) -> Any:
+    """What the answer to a command says, the last one of those to calls, which went out behind verdicts before these were answered.
+    Where one of these was refused that is raised, unless the command was taken all the same; a contradiction is raised
+    then too, and has what was answered."""
+    refused: Optional[errors.Error] = None
+    try:
+        for answer, call in zip(answers[:-1], calls):
+            outcome(answer, call)
+    except errors.Error as error:
+        refused = error
+    try:
+        found = outcome(answers[-1], calls[-1])
+    except (errors.Error, Wanted):
+        if refused is None:
+            raise
+        raise refused from None
+    if isinstance(refused, errors.Contradiction):
+        refused.answered = found
+        raise refused
+    return found
 
 
 # ---- the process

@@ -4,7 +4,7 @@ use Rattle.curve.specs.Known.{Verdicts, AreApart}
 use Rattle.curve.specs.Lines.{IsFirstBad}
 use Rattle.ffi.specs.Known.{AreOf}
 
--- a triple is in both, a line of one can't be read, which is told, or memory ran out
+-- a triple is in both, a line of one can't be read, which is reported, or memory ran out
 abbrev pub IsNoKnown : List (List ℕ) → List (List ℕ) → ℕ → ℕ → ℕ → Type 0
 IsNoKnown valid invalid before line code =
     ((found : Verdicts) × AreOf valid invalid found × (AreApart found.valid found.invalid → ⊥) × (line ≡ before) × (code ≡ 30))

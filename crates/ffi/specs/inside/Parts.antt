@@ -17,6 +17,6 @@ abbrev pub IsRefusal : {X : Type 0} → Result (X × List ℕ) WireFault → ℕ
 IsRefusal (Ok found) code = code ≡ 1
 IsRefusal (Err fault) code = (code ≡ wire_number fault) ⊎ (code ≡ 1)
 
--- a line can't be read, which is told, or memory ran out
+-- a line can't be read, which is reported, or memory ran out
 abbrev pub IsNoTable : List (List ℕ) → ℕ → ℕ → ℕ → Type 0
 IsNoTable ls before line code = ((code ≡ 3) × IsFirstBad ls line) ⊎ ((code ≡ 1) × (line ≡ before))

@@ -1,5 +1,7 @@
 -- Answers that are known before jobs are run.
-use Rattle.std.specs.Prelude.{◌≡◌, ℕ, Bool, List, [], ◌∷◌, Option, Some, IsSome, slice_get}
+use Rattle.std.specs.Prelude.{◌≡◌, ℕ, Bool, List, [], ◌∷◌, Option, Some, None, IsSome, slice_get}
+use Rattle.std.specs.Box.{box_value}
+use Rattle.std.specs.Global.{Box}
 use Rattle.std.specs.Map.{lookup}
 use Rattle.std.specs.BTreeMap.{is_at}
 use Rattle.std.specs.declared.cmp.Ordering.{Ordering}
@@ -10,18 +12,38 @@ use Rattle.txn.specs.declared.input.TxIn.{TxIn}
 use Rattle.txn.specs.declared.tx.Tx.{Tx}
 use Rattle.queue.specs.declared.early_jobs.Listed.{Listed}
 use Rattle.queue.specs.declared.verdict_index.Key.{Key}
+use Rattle.queue.specs.declared.verdict.Verdict.{Verdict}
+use Rattle.queue.specs.declared.verdict.Verdict.TheVariants as verdict
 use Rattle.queue.specs.declared.verdict_index.Slot.{Slot}
-use Rattle.interp.specs.Answer.{Answer}
+use Rattle.curve.specs.Known.{Known}
+use Rattle.curve.specs.Triple.{Triple}
+use Rattle.interp.specs.Answer.{Answer, Wants}
 use Rattle.interp.specs.Question.{Question}
+use Rattle.interp.specs.computed.Step.{verdict}
 use Rattle.queue.specs.Early.{Fits}
 use Rattle.queue.specs.Jobs.{Spending, spending, Answered, said}
 
 abbrev pub spending_of : Listed → Spending
 spending_of listed = spending listed.place listed.input listed.spent.items
 
--- what was found at a place is what its verdict answers
-abbrev pub AreFound : (ℕ → Answer Bool) → List (Option (Option Bool)) → Type 0
-AreFound verdict found = (place : ℕ) (answer : Option Bool) → slice_get found place ≡ Some (Some answer) → answer ≡ said (verdict place)
+-- the signature that a verdict wants, if it wants one
+abbrev pub wanted_in : Verdict → Option (Box Triple)
+wanted_in verdict.Yes = None
+wanted_in verdict.No = None
+wanted_in (verdict.Wants t) = Some t
+
+-- each answer is what the verdict at its place says
+abbrev pub AreSaid : (ℕ → Answer Bool) → List (Option Bool) → Type 0
+AreSaid verdict answers = (place : ℕ) (answer : Option Bool) → slice_get answers place ≡ Some answer → answer ≡ said (verdict place)
+
+-- each triple is wanted at its place
+abbrev pub AreWanted : (ℕ → Answer Bool) → List (Option (Box Triple)) → Type 0
+AreWanted verdict wants = (place : ℕ) (t : Box Triple) → slice_get wants place ≡ Some (Some t) → verdict place ≡ Wants (box_value t)
+
+-- each triple is wanted by the question at its place
+abbrev pub AreTheirWants : Known → List Question → List (Option (Box Triple)) → Type 0
+AreTheirWants known asked wants =
+    (place : ℕ) (q : Question) (t : Box Triple) → slice_get asked place ≡ Some q → slice_get wants place ≡ Some (Some t) → verdict known q ≡ Wants (box_value t)
 
 -- ---- the verdict that fits
 

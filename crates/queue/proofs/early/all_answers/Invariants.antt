@@ -1,5 +1,14 @@
-use Rattle.std.proofs.Common.{◌≡◌, map, take, Some}
+use Rattle.std.proofs.Common.{◌≡◌, length}
+use Rattle.queue.specs.inside.Pairing.{AreSaid, AreWanted}
+use Rattle.queue.specs.inside.Walking.{AreRight}
 use Rattle.queue.proofs.early.all_answers.Given as goal
 
-abbrev pub invariant-loop-slot : goal.invariant-loop-slot
-invariant-loop-slot l = map (λ answer. Some answer) l.list.items ≡ take l.slot-index l.found
+-- what was found of each place before
+abbrev pub invariant-loop-place : goal.invariant-loop-place
+invariant-loop-place g l = record {
+  right : AreRight (g.C.Places.verdict l.list) l.slots.items;
+  said : AreSaid (g.C.Places.verdict l.list) l.found.answers.items;
+  wanted : AreWanted (g.C.Places.verdict l.list) l.found.wants.items;
+  answers : length l.found.answers.items ≡ l.place;
+  wants : length l.found.wants.items ≡ l.place;
+}

@@ -1,4 +1,4 @@
--- What is told of the fields is told of the set that they make.
+-- What holds of the fields holds of the set that they make.
 use Rattle.std.proofs.Common.{rules, ◌≡◌, None, Some, IfOk, sym, subst}
 use Rattle.std.specs.Result.{result_err}
 use Rattle.block.specs.declared.block.Block.{Block}
