@@ -164,7 +164,7 @@ class Busy(ProgramTest):
 BLOCKS = "block b1 genesis\nblock b2 b1\nblock b3 b2\n"
 FULL = {"code": -32006, "message": "history-full"}
 NOW = 1_296_688_602
-#: Bytes of a block that is refused, `high-hash`: a coinbase whose script is large.
+#: Bytes of a script, in the coinbase of a large block.
 LARGE = 400_000
 
 
@@ -177,13 +177,22 @@ class HistoryMemory(ProgramTest):
     def submit(self, served: Served, data: bytes, seat: int = 0) -> dict[str, Any]:
         return served.answer("submit", seat=seat, block=data.hex(), now=NOW)
 
+    def large_coinbase(self) -> bytes:
+        coinbase = b"\1\0\0\0\1" + bytes(32) + b"\xff" * 4 + b"\2\x51\0" + b"\xff" * 4 + b"\1" + bytes(8)
+        return coinbase + b"\xfe" + LARGE.to_bytes(4, "little") + bytes(LARGE) + bytes(4)
+
+    def large_block(self) -> bytes:
+        """A block on genesis, of many bytes."""
+        coinbase = self.large_coinbase()
+        begins = b"\4\0\0\0" + bytes.fromhex(GENESIS)[::-1] + double_sha(coinbase) + (NOW + 1).to_bytes(4, "little") + b"\xff\xff\x7f\x20"
+        headers = (begins + nonce.to_bytes(4, "little") for nonce in range(100))
+        return next(it for it in headers if double_sha(it)[31] < 0x7f) + b"\1" + coinbase
+
     def refused_block(self) -> bytes:
         """A block that is refused for its header alone, of many bytes behind it."""
-        coinbase = b"\1\0\0\0\1" + bytes(32) + b"\xff" * 4 + b"\2ab" + b"\xff" * 4 + b"\1" + bytes(8)
-        coinbase += b"\xfe" + LARGE.to_bytes(4, "little") + bytes(LARGE) + bytes(4)
         # Regtest's target begins with a bit that isn't set.
         headers = (bytes(76) + nonce.to_bytes(4, "little") for nonce in range(100))
-        return next(it for it in headers if double_sha(it)[31] >= 0x80) + b"\1" + coinbase
+        return next(it for it in headers if double_sha(it)[31] >= 0x80) + b"\1" + self.large_coinbase()
 
     def test_submissions_that_are_not_kept(self) -> None:
         """Beyond the bound a submission that wouldn't be kept is no step; one that is goes on, and a mark does."""
@@ -240,6 +249,18 @@ class HistoryMemory(ProgramTest):
         for _ in range(400):
             self.assertEqual(self.submit(served, refused)["error"], FULL)
         # So many bytes would be 160 MB.
+        self.assertLess(resident(served.process.pid), before + 8_192)
+        self.assertEqual(served.end(), (0, ""))
+
+    def test_memory_of_one_that_comes_again(self) -> None:
+        """The history shares the bytes of a block that is kept: a duplicate takes none."""
+        served, block = self.served(), self.large_block()
+        self.assertEqual(self.submit(served, block)["result"], {"at": 1, "answer": "accepted"})
+        self.submit(served, block)
+        before = resident(served.process.pid)
+        for step in range(3, 103):
+            self.assertEqual(self.submit(served, block)["result"], {"at": step, "answer": "duplicate"})
+        # So many bytes would be 40 MB.
         self.assertLess(resident(served.process.pid), before + 8_192)
         self.assertEqual(served.end(), (0, ""))
 

@@ -21,6 +21,7 @@ ghost use Rattle.node.specs.inside.Refused.{IsWantAfter};
 mod attempt;
 mod bringing;
 mod core_info;
+mod entering;
 mod knowledge;
 mod last_places;
 mod locked_chain;
@@ -33,6 +34,7 @@ use crate::entries::own_are;
 use crate::naming::SeatToken;
 use crate::published_history::attempt::{Attempt, attempt_to_publish};
 use crate::published_history::bringing::{Brought, what_is_brought};
+use crate::published_history::entering::shared_command;
 use crate::published_history::last_places::LastPlaces;
 pub(crate) use crate::published_history::locked_chain::Crews;
 use crate::published_history::locked_chain::LockedChain;
@@ -298,7 +300,7 @@ impl<J: Naming> PublishedHistory<J> {
         if reserve_one(&mut self.journal).is_err() {
             return Err(Refusal::Memory);
         }
-        let Ok(entered) = asked.copy() else {
+        let Ok(entered) = shared_command(&self.chain.core, command, asked) else {
             return Err(Refusal::Memory);
         };
         let (reply, changes) = self.chain.step(self.alloc, command, crews, gate)?;

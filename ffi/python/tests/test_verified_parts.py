@@ -299,10 +299,13 @@ class PartsTest(unittest.TestCase):
         """What is cut short anywhere leaves the seat in order, and what was learnt stays."""
         chance, interrupts, verify = random.Random(8), Interrupts(self), Parts(verify=all_valid)
         seat, cut = self.node(verify).seat(0), 0
-        for _ in range(20):
-            cut += interrupts.cut(lambda: seat.judge(self.many.block, NOW), chance.uniform(1e-3, 0.3))
+        # Delays of each order of magnitude: a quick machine ends a call of known signatures within milliseconds.
+        for _ in range(300):
+            cut += interrupts.cut(lambda: seat.judge(self.many.block, NOW), 10 ** chance.uniform(-4, -0.5))
             self.assertEqual(set(self.steps(seat)) - {"valid"}, set())
-        self.assertGreater(cut, 3)
+            if cut == 20:
+                break
+        self.assertEqual(cut, 20)
         self.assertEqual(seat.submit(self.many.block, NOW), Stamped(BEFORE + COUNT + 1, "accepted"))
         self.assertEqual(sum(map(len, seat.node._pipe._waiting)), 0)
 
