@@ -20,7 +20,7 @@ import sys
 import tempfile
 import time
 import types
-from typing import Any, Dict, Iterable, List, Optional
+from typing import Any, Dict, Iterable, Optional
 
 from . import repository
 from .alone import Laid
