@@ -88,8 +88,9 @@ class Signed:
 
 class Early(unittest.TestCase):
     def test_scripts_whose_signatures_the_seat_told(self) -> None:
-        """A script without signatures is run before the lock alone. So are three that want one each: under the lock that is answered, and
-        they aren't run. When the seat has told which are valid, they are run once more before the lock, and not under it."""
+        """A script without signatures runs only before the lock. Three that want a signature each run there too; under the lock their
+        wants are answered without running them. After the seat has learnt the verdicts they run once more before the lock, and not
+        under it."""
         codes = [f"01{number:02x}ac" for number in (1, 2, 3)]
         lines = ["chain c 100 genesis", "tx A 1 0", "in c1.cb:0 -", *(f"out 1000000 {code}" for code in codes), "block b0 c100 A", "tx T 1 0"]
         lines += [f"in A:{it} 09{signature(it)}01" for it in range(3)]

@@ -18,8 +18,8 @@ INNER = "0063" + "ae" * 199 + "6851"
 PUSHED = "4ccb" + INNER
 TO_INNER = "a914d3e42b15d60b7a1d8e6dba1833935bcd178674ac87"
 
-# A push of 200 bytes, dropped: with scripts that begin so several threads have enough to run.
-LONG = "4cc8" + "00" * 200 + "75"
+# Two pushes of 520 bytes, dropped: with scripts that begin so sixteen threads have enough to run.
+LONG = 2 * ("4d0802" + "00" * 520 + "75")
 
 MISSING = "bad-txns-inputs-missingorspent"
 

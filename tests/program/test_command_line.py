@@ -83,7 +83,7 @@ Options:
       --scenario <F>       The scenario; - is the standard input
       --blk <F>            Blocks that are submitted first, as a blk file of Bitcoin Core has them
       --table <F>          The signatures that are valid
-      --workers <N>        How many threads check scripts, 1 to 16 [default: 2]
+      --workers <N>        At most so many threads check scripts, 1 to 16 [default: 2]
       --heights <A,B,C,D>  From which heights the rules of BIP 34, 65, 66, and of BIPs \
 68, 112 and 113 are in force [default: 1,1,1,1]
       --save <D>           The folder for journal.txt, blocks.blk, table.txt and heights.txt
@@ -168,7 +168,7 @@ Usage: regchain serve [OPTIONS]
 
 Options:
       --seats <N>            How many callers the node has places for, 1 to 16 [default: 4]
-      --workers <N>          How many threads check scripts, 1 to 16 [default: 2]
+      --workers <N>          At most so many threads check scripts, 1 to 16 [default: 2]
       --heights <A,B,C,D>    From which heights the rules of BIP 34, 65, 66, and of BIPs 68, 112 and 113 are in force \
 [default: 1,1,1,1]
       --table <F>            The signatures that are valid

@@ -64,6 +64,16 @@ class Edit:
     def has_twin(self) -> bool:
         return any(it.twin is not None for it in self.pairs())
 
+    def constants(self) -> Set[str]:
+        """The names of the constants that it changes."""
+        found = set()
+        for source, old, _, _ in self.pairs():
+            text = text_of(self.crate, source)
+            at = text.find(old)
+            if at >= 0 and not old.lstrip().startswith(("use ", "mod ")) and not function_at(text, at):
+                found.add(constant_at(text, at))
+        return found
+
     def laid(self, texts: Texts, as_twin: bool = False) -> Tuple[Texts, Named]:
         """The texts of the files with this edit or its twin, over those of `texts`, and the functions (file, name) that it changes.
 
@@ -238,10 +248,9 @@ class Trial(NamedTuple):
     bodies: List[str]
     in_place: bool
 
-    def calls(self, other: "Trial") -> bool:
-        """Whether a function of this one may call one that the other has put in the place of a real one."""
-        names = "|".join(name.rpartition("::")[2] for _, name in other.functions)
-        return other.in_place and any(re.search(rf"\b(?:{names})\(", body) for body in self.bodies)
+    def reads(self, constants: Set[str]) -> bool:
+        """Whether one of its bodies names one of these."""
+        return any(re.search(rf"\b{it}\b", body) for it in constants for body in self.bodies)
 
 
 def whole_of(text: str, it: Function) -> range:
@@ -287,18 +296,18 @@ def copies(crate: str, texts: Texts, changed: Named, mark: str) -> List[Copy]:
 class Batch:
     """Edits and twins that one check judges.
 
-    Each stands in functions of its own behind the real ones, whose bodies are left out: so as many as one likes can be judged of
-    one function, and each calls the real ones, by their contracts. A change of more than the texts of functions, or in the impl of
-    a trait, replaces the real text, if no other does.
+    Each gets functions of its own next to the real ones, whose bodies are left out. So one check judges any number of wrong bodies
+    of one function (MOST in all); they call the real functions through their contracts. A change of more than the texts of
+    functions, or in the impl of a trait, replaces the real text, if no other does.
     """
 
     def __init__(self, apart: bool = False) -> None:
         self.apart = apart
         self.trials: List[Trial] = []
         self.copies: Dict[str, List[Copy]] = {}
-        # The texts that stand in the place of real ones, and the functions that name a constant that one of them changes.
         self.in_place: Dict[str, Texts] = {}
-        self.moved: Dict[str, Named] = {}
+        # The constants that one of them changes: what names one is judged in another check, in each crate.
+        self.moved: Set[str] = set()
 
     def functions(self, crate: str) -> Named:
         return {it for trial in self.trials if trial.variant.edit.crate == crate for it in trial.functions}
@@ -333,7 +342,7 @@ class Batch:
         if not made:
             return self.takes_in_place(variant, changed, without_imports(old) != without_imports(new))
         trial = Trial(variant, {(it.source, it.name) for it in made}, [it.text.partition("\n")[2] for it in made], False)
-        if changed & self.moved.get(crate, set()) or not self.fits(trial):
+        if not self.fits(trial):
             return False
         self.trials.append(trial)
         self.copies.setdefault(crate, []).extend(made)
@@ -342,9 +351,9 @@ class Batch:
     def takes_in_place(self, variant: Variant, changed: Named, moves: bool) -> bool:
         """The same for one that replaces the real text: not where another does, or where it moves a constant that
         others read."""
-        crate = variant.edit.crate
+        crate, moved = variant.edit.crate, variant.edit.constants()
         copied = {(it.source, it.of) for it in self.copies.get(crate, [])}
-        if changed & (self.functions(crate) | (copied if moves else set()) | self.moved.get(crate, set())):
+        if changed & (self.functions(crate) | (copied if moves else set())) or any(it.reads(moved) for it in self.trials):
             return False
         try:
             texts, _ = variant.edit.laid(self.in_place.get(crate, {}), variant.as_twin)
@@ -356,13 +365,14 @@ class Batch:
             return False
         self.trials.append(trial)
         self.in_place[crate] = texts
-        if moves:
-            self.moved.setdefault(crate, set()).update(changed)
+        self.moved |= moved
         return True
 
     def fits(self, trial: Trial) -> bool:
-        """Whether it may stand here: where the batch's stand apart, none may call another."""
-        return not (self.apart and any(trial.calls(it) or it.calls(trial) for it in self.trials))
+        """Whether it may stand here: next to no constant that it reads and another changes. Where the batch's stand apart, what
+        replaces a real text stands alone, since others may call it."""
+        apart = self.apart and self.trials and (trial.in_place or any(it.in_place for it in self.trials))
+        return not (apart or trial.reads(self.moved))
 
 
 def batches(variants: Iterable[Variant], apart: bool = False) -> List[Batch]:

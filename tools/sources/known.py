@@ -46,7 +46,7 @@ def all_texts(edit: Edit) -> List[bytes]:
 
 def sum_of_twin(edit: Edit) -> str:
     """A sum of the kit, the edit, and the functions that it changes with their proofs. What those call isn't in it: a function whose
-    own text, contract and proof stay is proved anew by the gate over what changed elsewhere, and its twin means the same."""
+    own text, contract and proof stay is proved anew by the gate over what changed elsewhere. The twin is tried again with its edit."""
     own = seen.own(edit)
     return sum_of(edit, all_texts(edit) if own is None else [it.text.encode() for it in own])
 

@@ -9,7 +9,7 @@
 `wrong/run`. What a plant is, and how a check's lines are read, is the kit's: its scripts `rt-plant` and `rt-plant-bodies` are
 loaded, which no page of the kit documents. So another kit may need changes here, and the gate doesn't use this.
 
-The kinds are those of `rt plant --help`. The status is 0 if every crate was judged.
+The kinds are those of `rt plant --help`. The status is 0 unless a fault ends the run; plants that weren't judged are listed.
 """
 import argparse
 import collections

@@ -1,7 +1,7 @@
 """What a check of a function over its callees' contracts can read, so that a sum over it tells whether a result still holds.
 
 The other functions' bodies and proofs aren't there (alone.py), and equal texts get equal results. Of those it is enough to
-take what the function can reach by names; to take more does no harm but that an edit is tried again:
+take what the function can reach by names; taking more only means that an edit is tried again:
 
 - its own text, the `use` lines of its file, and the files of its proof;
 - each type, trait, constant, macro and re-export of its crate and those below whose name is a word of what was taken. A value's type

@@ -10,7 +10,7 @@
                                      sources: no prover, some seconds
 
 One check tries many edits: what a function's contract says is shown of its body alone, so each is judged for itself, also
-several of one function. README.md says how, what the edits are for, and when each was tried last.
+several of one function. README.md says how, and what the edits are for.
 
 The status is 0 where all that was tried was refused, 1 where an edit was let through, can't be applied or wasn't tried.
 """
@@ -47,11 +47,11 @@ class Prover:
         os.makedirs(kept, exist_ok=True)
 
     def tried_in_turn(self, variants: List[Variant]) -> Iterator[Dict[Variant, Found]]:
-        """What became of these edits and twins, and why, a check at a time. One that wasn't judged beside others, as it calls a
+        """What became of these edits and twins, and why, a check at a time. One that wasn't judged next to others, as it may call a
         function that another has put in the place of a real one, is tried once more without that."""
         again = []
         for batch in batches(variants):
-            disturbed = [it.variant for it in batch.trials if any(it.calls(other) for other in batch.trials if other is not it)]
+            disturbed = [it.variant for it in batch.trials if any(other.in_place for other in batch.trials if other is not it)]
             found = self.tried(batch)
             left = [it for it in disturbed if found[it].verdict == Verdict.UNTRIED]
             again += left
@@ -128,8 +128,10 @@ def unrecorded(edits: List[Edit], given: argparse.Namespace) -> Tuple[List[Edit]
     twins = [it for it in edits if it.has_twin()]
     if given.anew or given.edit:
         return edits, twins
-    left = known.unknown(known.TWINS, known.sum_of_twin, twins)
     unknown = known.unknown(known.REFUSED, known.sum_of_refusal, edits)
+    changed = known.unknown(known.TWINS, known.sum_of_twin, twins)
+    # What a twin's function calls isn't in its sum, so the twin is tried again with its edit.
+    left = [it for it in twins if it in unknown or it in changed]
     print(f"wrong/run: {len(edits) - len(unknown)} of {len(edits)} edits are recorded as refused, and {len(twins) - len(left)} twins as passed", flush=True)
     return [it for it in edits if it in unknown or it in left], left
 

@@ -276,7 +276,7 @@ const WORKERS: Opt = Opt {
     name: "workers",
     takes: Takes::Few,
     value: "N",
-    help: "How many threads check scripts, 1 to 16 [default: 2]",
+    help: "At most so many threads check scripts, 1 to 16 [default: 2]",
     ..FILE
 };
 

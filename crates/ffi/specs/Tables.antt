@@ -1,4 +1,4 @@
--- What a table of valid signatures reports, which is passed as its text.
+-- What is reported about a table of valid signatures, which is passed as text.
 use Rattle.std.specs.Prelude.{◌≡◌, ℕ, ◌⊎◌, ◌++◌, List, [], ◌∷◌, codes}
 use Rattle.hex.specs.Hex.{encode_lower}
 use Rattle.curve.specs.Lines.{IsFirstBad, IsTableOf}

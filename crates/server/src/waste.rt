@@ -1,4 +1,4 @@
-//! The memory that submissions take in the history which aren't kept: refused and repeated ones.
+//! What counts against `--history-memory`: submissions that are refused or repeated.
 
 ghost use Rattle.std.specs.Prelude.{◌≡◌, ◌+◌, ◌-◌, ◌^◌, min, if◌then◌else◌};
 ghost use Rattle.server.specs.inside.Brought.{is_kept as is_kept_by};
@@ -13,7 +13,7 @@ const MEGABYTE: u64 = 1_000_000;
 /// What an entry of the history takes beside a block's bytes, about.
 const ENTRY: u64 = 300;
 
-/// How many bytes such submissions have taken, and may take.
+/// How many bytes such submissions have come to, and may come to.
 #[derive(Drop)]
 pub struct Waste {
     most: Option<u64>,
@@ -47,7 +47,7 @@ impl Waste {
     }
 }
 
-/// What a submission of so many bytes takes of the history that isn't kept; 0 where it is.
+/// What a submission of so many bytes counts; 0 if it is kept. A repeated one counts whole, though it shares the kept block's bytes.
 pub fn taken_by(reply: SubmitReply, bytes: usize) -> u64
     ensures { result ≡ (if is_kept_by reply then 0 else min (300 + bytes) (2 ^ 64 - 1)) }
 {

@@ -136,7 +136,7 @@ impl<'p, 'l> Params<'p, 'l> {
     }
 }
 
-/// Sees that each line of a text can be read as one of a table. No table is made of them: the node takes them one by one.
+/// Checks that each line of a text can be read as a line of a table. It makes no table, since the node takes the lines one by one.
 fn check_lines(alloc: Global, text: &[u8]) -> Result<(), TableFault>
     ensures readable { OnOk result (All IsReadable (lines text.now)) }
     ensures refused { IfErr result (IsFaultOf (lines text.now)) }

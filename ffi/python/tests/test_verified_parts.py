@@ -1,7 +1,8 @@
-"""Many signatures for which one command asks: they are verified in parts, one is reported to the node while the next is verified, and
-the command goes out again behind the last. What may go wrong meanwhile."""
+"""One command wants many signatures: each part is reported while the next is verified, and the command follows the last report.
+These tests break that in different ways."""
 
 import asyncio
+import contextlib
 import gc
 import os
 import random
@@ -95,6 +96,16 @@ class Parts:
     @property
     def sizes(self):
         return [len(lines) for lines in self.asked]
+
+
+@contextlib.contextmanager
+def waiting(node, timeout):
+    """Calls wait so many seconds: a bound for these alone, as a busy machine begins a process slowly."""
+    kept, node._pipe.timeout = node._pipe.timeout, timeout or node._pipe.timeout
+    try:
+        yield
+    finally:
+        node._pipe.timeout = kept
 
 
 def all_valid(lines):
@@ -277,7 +288,7 @@ class PartsTest(unittest.TestCase):
         self.assertEqual(steps, [BEFORE + PART])
 
     def test_a_killed_node_has_the_parts_that_were_told(self):
-        """Where an answer came that is behind them."""
+        """A part is on the disk once an answer behind it came."""
         folder = os.path.join(self.room, "data")
 
         def within(number):
@@ -311,22 +322,24 @@ class PartsTest(unittest.TestCase):
 
     # ---- answers that come late, or are refusals
 
-    def answered(self, learnt, taken, timeout=60.0):
+    def answered(self, learnt, taken, timeout=None):
         """What a thread and a task are answered, or the exceptions that they are raised, and the steps of what they ask then."""
         program = fake(self.room, LATE.format(learnt=learnt, taken=taken))
-        node = Node(seats=1, program=program, verify=all_valid, timeout=timeout)
+        node = Node(seats=1, program=program, verify=all_valid)
         self.addCleanup(node.kill)
         found = []
         try:
-            found.append(node.seat(0).try_submit(b"", NOW))
+            with waiting(node, timeout):
+                found.append(node.seat(0).try_submit(b"", NOW))
         except errors.Error as error:
             found.append(error)
         self.assertIsInstance(node.seat(0).note(), int)
 
         async def main():
-            async with AsyncNode(seats=1, program=program, verify=all_valid, timeout=timeout) as other:
+            async with AsyncNode(seats=1, program=program, verify=all_valid) as other:
                 try:
-                    found.append(await other.seat(0).try_submit(b"", NOW))
+                    with waiting(other, timeout):
+                        found.append(await other.seat(0).try_submit(b"", NOW))
                 except errors.Error as error:
                     found.append(error)
                 self.assertIsInstance(await other.seat(0).note(), int)
@@ -378,7 +391,7 @@ class PartsTest(unittest.TestCase):
         self.assertEqual(reported, [])
 
     def test_tasks(self):
-        """In a thread of the event loop's, which asks another node's seat: that goes on meanwhile."""
+        """`verify` runs on a thread of the event loop and asks another seat of the node: the loop goes on meanwhile."""
         told = []
 
         async def play(node):

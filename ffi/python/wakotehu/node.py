@@ -41,8 +41,8 @@ class Seat:
         return self.node._pipe.ask(call, self.number)
 
     def _command(self, call: Call) -> Any:
-        """Makes a command. Where it wants signatures, finds out which are valid, tells the node, and makes it again. It
-        reports some while it finds out the next ones, and the node reads the command while it learns the last ones."""
+        """Makes a command. If it wants signatures, this thread verifies them, reports each part while it verifies the next, and
+        sends the command again behind the last report, without waiting for the answers."""
         node, pipe = self.node, self.node._pipe
         calls, asked = [call], pipe.begun([call], self.number)
         while True:
@@ -224,7 +224,8 @@ class Node:
         steps are on the disk: however the process or the machine ends, nothing that was answered is lost.
     sync: False answers without waiting for the disk; a crash of the machine may then lose what was answered.
     history_memory: how many megabytes submissions may take that aren't kept, but repeated or refused. Beyond, such a
-        submission raises `HistoryFull`, and is no step. None is without a bound.
+        submission raises `HistoryFull`, and is no step. A repeated one counts whole, though it shares the kept block's bytes. None
+        is without a bound.
     timeout: how many seconds a call waits for its answer, `close` and the opening with `blk`, `load` or `datadir` included; None is
         for ever. Then it raises `TimedOut`.
 

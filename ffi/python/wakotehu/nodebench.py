@@ -87,7 +87,7 @@ class NodeBench(Walks):
         self.node = Node(
             seats, workers, heights, given, program, datadir=datadir, sync=sync, timeout=None, verify=verify
         )
-        # A round is of all that a command wants.
+        # Rounds needs all that a command wants at once.
         self.node._is_parted = False
         self.heights = self.node.info.heights
         if datadir is not None:
@@ -165,6 +165,9 @@ class NodeBench(Walks):
             raise self._break(error)
         except errors.NotSaved as error:
             raise self._break(self._why(error))
+        except errors.Contradiction as error:
+            # Its command may have been taken all the same.
+            raise self._break(error) if error.answered else error
         self._saw(number, answered.at)
         return answered
 

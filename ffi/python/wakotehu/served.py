@@ -31,7 +31,7 @@ TIMEOUT = 60.0
 KEPT = 2000
 #: So many verdicts are told by a request at most, whose line is then no longer than the program reads.
 _VERDICTS = 50_000
-#: In so many parts signatures are verified, of so many at least: a part is reported while the next one is verified.
+#: Signatures are verified in at most so many parts, each of at least so many: one part is reported while the next is verified.
 _PARTS, _LEAST = 4, 200
 
 
@@ -99,7 +99,7 @@ class Wanted(Exception):
 
 class Call(NamedTuple):
     """A call of a seat: its method, its parameters behind the seat's as JSON, and how its result is read. Where the last of them is
-    a long text, its characters are in `text`, which isn't copied; `params` then ends with that text's first quote."""
+    a long text, its characters are in `text`, which `Pipe` writes without a copy; `params` then ends with the text's first quote."""
 
     method: str
     params: str
@@ -308,7 +308,7 @@ def learning(lines: Sequence[bytes], found: Sequence[bool]) -> List[Call]:
 
 
 def _learning(lines: Sequence[bytes], found: Sequence[bool]) -> Call:
-    # The lines have digits, spaces and bars alone.
+    # The lines have hexadecimal digits, spaces and dashes alone.
     valid = lines if all(found) else list(compress(lines, found))
     invalid = b"\\n".join(line for line, verdict in zip(lines, found) if not verdict)
     return Call("learn", f',"invalid":"{invalid.decode()}","valid":"', _read_learnt, b"\\n".join(valid))
@@ -359,13 +359,14 @@ def request(id: int, call: Call, seat: Optional[int]) -> List[bytes]:
 
 
 _decoder = json.JSONDecoder()
-#: How an answer begins that wants signatures, and each of its lines, which have digits, spaces and bars alone.
+#: How an answer begins that wants signatures, and each of its lines, which have hexadecimal digits, spaces and dashes alone.
 _WANTS = re.compile(rb'\{"jsonrpc":"2\.0","id":(\d+),"result":\{"at":(\d+),"answer":\{"wants":\[')
 _WANTED = re.compile(rb'"([^"]*)"')
 
 
 def read_answer(line: bytes) -> Dict[str, Any]:
-    """The object of a line. What isn't JSON is a `ValueError`. Signatures that are wanted may be many: they stay bytes."""
+    """The object of a line. What isn't JSON is a `ValueError`, except for wanted signatures, which may be many: only the front and
+    the end of their line are checked, and they stay bytes."""
     wants = _WANTS.match(line)
     if wants and line.endswith(b'"]}}}'):
         lines = _WANTED.findall(line, wants.end())

@@ -43,8 +43,9 @@ impl<'o, O: Write> FileHost<'o, O> {
         is_synced: bool,
         out: &'o mut O,
     ) -> FileHost<'o, O>
-        ensures { result.notes.items
+        ensures calls { result.notes.items
             ≡ (record { asked = asked.Open; is_done = true }, bytes.now) ∷ [] }
+        ensures synced { result.is_synced ≡ is_synced }
     {
         let call = Call {
             asked: Asked::Open,
