@@ -241,16 +241,16 @@ class Copy(NamedTuple):
 
 
 class Trial(NamedTuple):
-    """A variant in a check: the functions that stand for it, their bodies, and whether they stand in the place of the real ones."""
+    """A variant in a check: the functions that stand for it, their texts, and whether they stand in the place of the real ones."""
 
     variant: Variant
     functions: Named
-    bodies: List[str]
+    texts: List[str]
     in_place: bool
 
     def reads(self, constants: Set[str]) -> bool:
-        """Whether one of its bodies names one of these."""
-        return any(re.search(rf"\b{it}\b", body) for it in constants for body in self.bodies)
+        """Whether one of its functions names one of these."""
+        return any(re.search(rf"\b{it}\b", text) for it in constants for text in self.texts)
 
 
 def whole_of(text: str, it: Function) -> range:
@@ -341,7 +341,7 @@ class Batch:
         made = copies(crate, texts, changed, f"_laid{len(self.trials)}") if old == new else []
         if not made:
             return self.takes_in_place(variant, changed, without_imports(old) != without_imports(new))
-        trial = Trial(variant, {(it.source, it.name) for it in made}, [it.text.partition("\n")[2] for it in made], False)
+        trial = Trial(variant, {(it.source, it.name) for it in made}, [it.text for it in made], False)
         if not self.fits(trial):
             return False
         self.trials.append(trial)
@@ -360,7 +360,7 @@ class Batch:
         except BadEdit:
             return False
         its = [(texts[source], function_of(texts[source], name)) for source, name in changed if source in texts]
-        trial = Trial(variant, changed, [text[it.begin : it.end].partition("\n")[2] for text, it in its if it], True)
+        trial = Trial(variant, changed, [text[it.begin : it.end] for text, it in its if it], True)
         if not self.fits(trial):
             return False
         self.trials.append(trial)

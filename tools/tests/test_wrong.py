@@ -28,6 +28,10 @@ impl Room {
 }
 
 pub fn spare() -> u8 { 3 }
+
+pub const WIDTH: u8 = 7;
+
+pub fn width() -> u8 { WIDTH }
 """,
     "crates/low/specs/Limit.antt": "-- The most.\nabbrev pub most : ℕ\nmost = 9\n",
     "crates/low/specs/Unread.antt": "abbrev pub unread : ℕ\nunread = 1\n",
@@ -44,6 +48,8 @@ pub fn both(a: &Room, b: &Room) -> u8 {
 
 pub fn last() -> u8 { LAST }
 
+pub fn room() -> u8 { low::WIDTH }
+
 impl Drop for Kept {
     fn drop(&mut self) { both(); }
 }
@@ -54,6 +60,8 @@ impl Drop for Kept {
     "crates/high/proofs/Apart.antt": "pub apart : 2 ≡ 2\napart = refl\n",
     "wrong/high/left_alone.edit": "file: src/lib.rt\nold:     a.len() + b.len()\nnew:     a.len() + a.len()\ntwin:     b.len() + a.len()\n",
     "wrong/high/one_more.edit": "file: src/lib.rt\nold: const LAST: u8 = 9;\nnew: const LAST: u8 = 10;\n",
+    "wrong/high/less_room.edit": "file: src/lib.rt\nold: { low::WIDTH }\nnew: { low::WIDTH - 1 }\n",
+    "wrong/low/one_wider.edit": "file: src/lib.rt\nold: const WIDTH: u8 = 7;\nnew: const WIDTH: u8 = 8;\n",
     "wrong/high/nothing_dropped.edit": "file: src/lib.rt\nold: { both(); }\nnew: { }\n",
 }
 
@@ -96,6 +104,12 @@ class Together(Small):
         self.assertEqual([it.in_place for it in batch.trials], [True, True])
         self.assertEqual(batch.functions("high"), {("src/lib.rt", "last"), ("src/lib.rt", "KeptDrop::drop")})
         self.assertEqual([len(it.trials) for it in batches(self.variants(("one_more", False), ("one_more", True)))], [1, 1])
+
+    def test_what_reads_a_changed_constant_stands_apart(self) -> None:
+        """In a crate above it too."""
+        wider, less = Variant(Edit("low", "one_wider"), False), Variant(Edit("high", "less_room"), False)
+        for variants in ([wider, less], [less, wider]):
+            self.assertEqual([len(it.trials) for it in batches(variants)], [1, 1])
 
     def test_proofs_are_laid_for_copies(self) -> None:
         (batch,) = batches(self.variants(("left_alone", False)))
