@@ -58,7 +58,7 @@ class Plants:
         self.source = self.emptied()
 
     def emptied(self) -> Any:
-        """What stands in the copy; of each function the kit sees the real body, from which it takes errors."""
+        """The sources of the copy; for each function the kit sees the real body, from which it takes errors."""
         real, source = (self.kit.bodies.Source(it) for it in (f"{repository.ROOT}/crates/{self.crate.name}", self.folder()))
         for it in (real, source):
             it.read("src/lib.rt")

@@ -131,7 +131,7 @@ class PartsTest(unittest.TestCase):
         return node
 
     def steps(self, seat):
-        """The steps behind those of the blocks before."""
+        """The commands of the steps after the earlier blocks."""
         return [entry.command for entry in seat.journal(BEFORE + 1).value]
 
     def test_how_many(self):
