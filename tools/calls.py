@@ -19,18 +19,18 @@ if {"-h", "--help"} & set(sys.argv[1:]):
 
 MOST = 12
 WAY = [
-    ("node/src/writing.rt", "Seat::submit"),
-    ("node/src/writing.rt", "Seat::write"),
-    ("node/src/writing.rt", "Seat::write_under_lock"),
+    ("node/src/writes.rt", "Seat::submit"),
+    ("node/src/writes.rt", "Seat::write"),
+    ("node/src/writes.rt", "Seat::write_under_lock"),
     ("node/src/published_history.rt", "PublishedHistory::step"),
     ("node/src/published_history/locked_chain.rt", "LockedChain::step"),
-    ("activate/src/core_state/stepping.rt", "Core::step_over"),
-    ("activate/src/core_state/preparing.rt", "Core::prepare"),
-    ("activate/src/core_state/settling.rt", "Core::settle_new"),
+    ("activate/src/core_state/steps.rt", "Core::step_over"),
+    ("activate/src/core_state/preparation.rt", "Core::prepare"),
+    ("activate/src/core_state/settlement.rt", "Core::settle_new"),
     ("activate/src/branch_try.rt", "ActiveBranch::try_new_block"),
-    ("connect/src/connecting.rt", "apply_in_layer"),
-    ("connect/src/connecting.rt", "connect_txs"),
-    ("connect/src/connecting.rt", "connect_others"),
+    ("connect/src/connect_block.rt", "apply_in_layer"),
+    ("connect/src/connect_block.rt", "connect_txs"),
+    ("connect/src/connect_block.rt", "connect_others"),
     ("connect/src/turn.rt", "connect_tx"),
 ]
 

@@ -13,8 +13,8 @@ from .repository import read
 EXAMPLES = [
     ("README.md", "python", 0, "ffi/examples/two_threads.py", False),
     ("docs/LIBRARY.md", "rust", 0, "crates/wallet/src/main.rt", True),
-    ("docs/PROOF.md", "rust", 0, "crates/node/src/writing.rt", False),
-    ("docs/PROOF.md", "rust", 1, "crates/node/src/reading.rt", False),
+    ("docs/PROOF.md", "rust", 0, "crates/node/src/writes.rt", False),
+    ("docs/PROOF.md", "rust", 1, "crates/node/src/reads.rt", False),
     ("ffi/python/README.md", "python", 0, "ffi/examples/two_threads.py", True),
     ("ffi/python/README.md", "python", 4, "ffi/examples/waiting.py", False),
 ]

@@ -5,7 +5,7 @@ use Rattle.block.specs.declared.block.Block.{Block}
 use Rattle.coins.specs.declared.coin.Coin.{Coin}
 use Rattle.tree.specs.Branches.{Blocks, branch, height}
 use Rattle.tree.specs.laws.Branches.{branch_head}
-use Rattle.activate.specs.inside.Keeping.{HasRoom, IsBranch}
+use Rattle.activate.specs.inside.Kept.{HasRoom, IsBranch}
 use Rattle.activate.specs.inside.ActiveBranch.{median_at}
 use Rattle.activate.specs.laws.Turning.{highest-long, medians-branch}
 

@@ -12,12 +12,12 @@ use Rattle.tree.specs.Sound.{IsBest}
 use Rattle.tree.specs.State.{beats, has_no_mark}
 use Rattle.tree.specs.laws.Added.{place-bound}
 use Rattle.activate.specs.declared.path.Attempt.{Attempt}
-use Rattle.activate.specs.declared.prepared.Prepared.{Prepared}
-use Rattle.activate.specs.declared.prepared.Settled.{Settled}
-use Rattle.activate.specs.declared.prepared.Edit.TheVariants.{Keep}
+use Rattle.activate.specs.declared.plan.Prepared.{Prepared}
+use Rattle.activate.specs.declared.plan.Settled.{Settled}
+use Rattle.activate.specs.declared.plan.Edit.TheVariants.{Keep}
 use Rattle.tree.specs.declared.new_block.NewBlock.{NewBlock}
-use Rattle.activate.specs.declared.prepared.Completion.{Completion}
-use Rattle.activate.specs.declared.prepared.Completion.TheVariants.{Nothing}
+use Rattle.activate.specs.declared.plan.Completion.{Completion}
+use Rattle.activate.specs.declared.plan.Completion.TheVariants.{Nothing}
 use Rattle.chain.specs.declared.reply.SubmitReply.{SubmitReply}
 use Rattle.chain.specs.declared.reply.SubmitReply.TheVariants.{Inconclusive}
 use Rattle.chain.specs.declared.reply.Reply.{Reply}

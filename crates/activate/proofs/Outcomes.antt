@@ -6,9 +6,9 @@ use Rattle.rules.specs.declared.params.Params.{Params}
 use Rattle.tree.specs.State.{State}
 use Rattle.chain.specs.declared.command.Command.{Command}
 use Rattle.hash.specs.declared.id.Id.{Id}
-use Rattle.activate.specs.declared.prepared.Prepared.{Prepared}
-use Rattle.activate.specs.declared.prepared.Completion.{Completion}
-use Rattle.activate.specs.declared.prepared.Completion.TheVariants.{Nothing, Flag, Activate}
+use Rattle.activate.specs.declared.plan.Prepared.{Prepared}
+use Rattle.activate.specs.declared.plan.Completion.{Completion}
+use Rattle.activate.specs.declared.plan.Completion.TheVariants.{Nothing, Flag, Activate}
 use Rattle.chain.specs.Rules.{Rules}
 use Rattle.chain.specs.Submission.{Outcome}
 use Rattle.chain.specs.Settle.{active}

@@ -18,11 +18,11 @@ use Rattle.tree.specs.laws.Marks.{usable_gives, usable_from, usable-cleared}
 use Rattle.tree.specs.laws.Ranks.{better_trans, better-height, better-called, better-others}
 use Rattle.tree.specs.laws.Sets.{clash, InOrder, none_above, has-filter, in_order-joined, joined_more, filter_agree, has-joined}
 use Rattle.tree.specs.laws.Added.{blocks-old, usable_new, usable_there, better_there}
-use Rattle.activate.specs.declared.prepared.Prepared.{Prepared}
-use Rattle.activate.specs.declared.prepared.Edit.{Edit}
-use Rattle.activate.specs.declared.prepared.Edit.TheVariants.{Remark}
-use Rattle.activate.specs.declared.prepared.Completion.{Completion}
-use Rattle.activate.specs.declared.prepared.Completion.TheVariants.{Nothing, Activate}
+use Rattle.activate.specs.declared.plan.Prepared.{Prepared}
+use Rattle.activate.specs.declared.plan.Edit.{Edit}
+use Rattle.activate.specs.declared.plan.Edit.TheVariants.{Remark}
+use Rattle.activate.specs.declared.plan.Completion.{Completion}
+use Rattle.activate.specs.declared.plan.Completion.TheVariants.{Nothing, Activate}
 use Rattle.chain.specs.declared.reply.Reply.{Reply}
 use Rattle.chain.specs.declared.reply.Reply.TheVariants as reply
 use Rattle.chain.specs.declared.reply.SubmitReply.{SubmitReply}

@@ -15,8 +15,8 @@ use Rattle.tree.specs.laws.Marks.{bad-flagged, seen-flagged, usable_gives}
 use Rattle.tree.specs.laws.Parents.{parent-below, on-rest}
 use Rattle.tree.specs.laws.Sets.{has_here, has_there, in_order-joined}
 use Rattle.tree.specs.laws.Above.{above, above-end, above-step}
-use Rattle.activate.specs.declared.prepared.Completion.{Completion}
-use Rattle.activate.specs.declared.prepared.Completion.TheVariants.{Flag, Activate}
+use Rattle.activate.specs.declared.plan.Completion.{Completion}
+use Rattle.activate.specs.declared.plan.Completion.TheVariants.{Flag, Activate}
 use Rattle.chain.specs.declared.reply.SubmitReply.TheVariants.{Accepted, Inconclusive, Rejected}
 use Rattle.activate.specs.declared.path.FailedTry.{FailedTry}
 use Rattle.activate.specs.declared.path.Reorganisation.{Reorganisation}

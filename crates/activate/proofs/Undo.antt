@@ -12,9 +12,9 @@ use Rattle.tree.specs.laws.Branches.{on-bounds, on-itself}
 use Rattle.tree.specs.laws.Parents.{on-parent, parent-below}
 use Rattle.tree.specs.laws.Walks.{shared_here}
 use Rattle.activate.specs.declared.path.BranchPath.{BranchPath}
-use Rattle.activate.specs.declared.prepared.Prepared.{Prepared}
-use Rattle.activate.specs.declared.prepared.Completion.{Completion}
-use Rattle.activate.specs.declared.prepared.Completion.TheVariants.{Nothing, Flag, Activate}
+use Rattle.activate.specs.declared.plan.Prepared.{Prepared}
+use Rattle.activate.specs.declared.plan.Completion.{Completion}
+use Rattle.activate.specs.declared.plan.Completion.TheVariants.{Nothing, Flag, Activate}
 use Rattle.curve.specs.Triple.{Triples}
 use Rattle.chain.specs.declared.command.Command.{Command}
 use Rattle.chain.specs.Regtest.{regtest}

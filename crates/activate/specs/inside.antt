@@ -3,7 +3,7 @@ pub mod ActiveBranch
 pub mod Ascents
 pub mod Disconnection
 pub mod Headers
-pub mod Keeping
-pub mod Looking
+pub mod Kept
+pub mod Heights
 pub mod Paths
 pub mod Preparation

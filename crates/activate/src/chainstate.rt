@@ -17,11 +17,11 @@ ghost use Rattle.chain.specs.Settle.{active, best, tips};
 ghost use Rattle.activate.specs.CoreState.{IsBlockOf, IsChainstate, KeepsUndo, most_undo, opened_core};
 ghost use Rattle.activate.specs.Wants.{AreWantedByStep};
 
-mod looking;
+mod lookups;
 
 use crate::active_branch::MOST_UNDO;
 use crate::core_state::Core;
-use crate::laying::OwnCoins;
+use crate::own_coins::OwnCoins;
 use block::Bytes;
 use chain::{Command, PreparedCommand, Reply};
 use coins::CoinMap;

@@ -12,13 +12,13 @@ ghost use Rattle.tree.specs.Names.{names};
 ghost use Rattle.tree.specs.Tips.{tip_of_id};
 ghost use Rattle.activate.specs.CoreState.{Follows, IsBlockOf, coins_of, opened_core, most_undo};
 
-mod committing;
-mod copying;
-mod looking;
-mod marking;
-pub(crate) mod preparing;
-pub(crate) mod settling;
-mod stepping;
+mod commit;
+mod copies;
+mod lookups;
+mod marks;
+pub(crate) mod preparation;
+pub(crate) mod settlement;
+mod steps;
 
 use crate::active_branch::MOST_UNDO;
 use block::{Bytes, GENESIS_TIME};
@@ -52,7 +52,7 @@ impl Model for Core {
     ghost use Rattle.std.specs.Prelude.{length, ◌≤◌, vec_capacity};
     ghost use Rattle.std.specs.VecDeque.{deque_capacity};
     ghost use Rattle.activate.specs.CoreState.{CoreState};
-    ghost use Rattle.activate.specs.inside.Keeping.{IsBranch, HasRoom};
+    ghost use Rattle.activate.specs.inside.Kept.{IsBranch, HasRoom};
 
     ghost Value = { CoreState };
 

@@ -11,12 +11,12 @@ mod disconnection;
 mod fork_search;
 mod headers;
 pub mod laws;
-mod laying;
 mod lookups;
 mod medians;
 mod new_undo;
+mod own_coins;
 mod path;
-mod prepared;
+mod plan;
 mod try_flags;
 
 pub use active_branch::MOST_UNDO;

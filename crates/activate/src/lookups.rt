@@ -7,7 +7,7 @@ ghost use Rattle.tree.specs.Limits.{max_blocks};
 ghost use Rattle.tree.specs.Names.{names};
 ghost use Rattle.tree.specs.Tips.{last_shared};
 ghost use Rattle.activate.specs.Lookups.{ancestor_at, ancestor_of, depth_at, fork_of, header_of, height_of, spent_at};
-ghost use Rattle.activate.specs.inside.Looking.{AreByHeight};
+ghost use Rattle.activate.specs.inside.Heights.{AreByHeight};
 
 use crate::fork_search::stands_at;
 use crate::headers::header_bytes;

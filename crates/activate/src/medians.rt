@@ -16,7 +16,7 @@ pub(crate) struct Medians<'m> {
 
 impl<'m> Model for Medians<'m> {
     ghost use Rattle.std.specs.Prelude.{List, ℕ};
-    ghost use Rattle.activate.specs.inside.Keeping.{medians_seen};
+    ghost use Rattle.activate.specs.inside.Kept.{medians_seen};
 
     ghost Value = { List ℕ };
 

@@ -3,8 +3,8 @@
 ghost use Rattle.activate.specs.CoreState.{IsChainstate};
 
 use crate::check::Check;
+use crate::clock::{Outcome, Timer};
 use crate::fault::Fault;
-use crate::timing::{Outcome, Timer};
 use activate::Chainstate;
 use chain::{Bytes, Command};
 use connect::Env;

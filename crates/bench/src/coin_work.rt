@@ -1,8 +1,8 @@
 //! Coins in a map, and layers over it.
 
 use crate::check::Check;
+use crate::clock::{Outcome, Timer};
 use crate::fault::Fault;
-use crate::timing::{Outcome, Timer};
 use coins::{Base, Cache, Coin, CoinMap};
 use scenarios::inputs::hoard::{Hoard, fill, hoarded, put_coin, put_next, put_spread};
 use scenarios::inputs::start::Start;

@@ -1,8 +1,8 @@
 //! Scripts that were run before their block is connected.
 
-use crate::connecting::{HEIGHT, timed};
+use crate::clock::Outcome;
+use crate::connections::{HEIGHT, timed};
 use crate::fault::Fault;
-use crate::timing::Outcome;
 use block::Block;
 use coins::CoinMap;
 use connect::early_jobs;

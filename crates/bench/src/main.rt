@@ -3,20 +3,20 @@
 
 mod chain_work;
 mod check;
+mod clock;
+mod codec;
 mod coin_work;
-mod connecting;
-mod decoding;
+mod connections;
 mod early_work;
 mod fault;
-mod hashing;
+mod hashes;
 mod node_work;
 mod plan;
-mod queueing;
+mod queues;
 mod read_work;
 mod scripts;
 mod seat_work;
-mod signing;
-mod timing;
+mod signatures;
 mod words;
 mod workload;
 

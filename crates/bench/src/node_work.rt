@@ -3,11 +3,11 @@
 ghost use Rattle.std.specs.Prelude.{◌≡◌};
 
 use crate::check::Check;
+use crate::clock::{Outcome, Timer};
 use crate::fault::Fault;
 use crate::plan::{Plan, Work};
 use crate::read_work::reads_beside;
 use crate::seat_work::{at_once, in_turn, submit, submit_each};
-use crate::timing::{Outcome, Timer};
 use node::{Naming, Node, Open, Opening, Params, Seat, Table};
 use scenarios::inputs;
 use scenarios::inputs::branch::Branch;

@@ -1,10 +1,10 @@
 //! Reads at seats of a node, by themselves and beside a writer.
 
 use crate::check::Check;
+use crate::clock::{Outcome, Timer};
 use crate::fault::Fault;
 use crate::plan::Work;
 use crate::seat_work::{at_once, submit};
-use crate::timing::{Outcome, Timer};
 use node::{Naming, Node, Seat};
 use std::rt::Clock;
 use std::sync::Wait;

@@ -2,10 +2,10 @@
 
 use crate::chain_work::NOW;
 use crate::check::Check;
+use crate::clock::{Outcome, Timer};
 use crate::fault::Fault;
 use crate::plan::Work;
 use crate::read_work::read_each;
-use crate::timing::{Outcome, Timer};
 use node::{Naming, Node, Seat, SubmitReply};
 use std::rt::Clock;
 use std::sync::Wait;

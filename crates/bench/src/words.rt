@@ -1,7 +1,7 @@
 //! The command line, and the lines that are printed.
 
+use crate::clock::Outcome;
 use crate::fault::Fault;
-use crate::timing::Outcome;
 use crate::workload::{ALL, Workload};
 use std::env;
 use std::io::Write;

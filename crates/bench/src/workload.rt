@@ -1,13 +1,13 @@
 //! The workloads by their names.
 
 use crate::chain_work::{Growth, grown};
+use crate::clock::Outcome;
 use crate::fault::Fault;
 use crate::node_work::at_node;
 use crate::plan::Plan;
-use crate::queueing::{Runner, checked};
+use crate::queues::{Runner, checked};
 use crate::read_work::Look;
-use crate::timing::Outcome;
-use crate::{coin_work, connecting, decoding, early_work, hashing, plan, signing};
+use crate::{codec, coin_work, connections, early_work, hashes, plan, signatures};
 use scenarios::inputs;
 use scenarios::inputs::branch::Branch;
 use scenarios::inputs::scripts;
@@ -144,15 +144,15 @@ impl Workload {
         R: AllocGlobal + Clock + Threads + Wait + Sync,
     {
         match self {
-            Workload::DoubleSha => hashing::double_sha_chain(rt, size),
-            Workload::Ripemd => hashing::ripemd_chain(rt, size),
-            Workload::RipemdLong => hashing::ripemd_long(rt, size),
-            Workload::Merkle => hashing::merkle_root(rt, size),
-            Workload::Decode => decoding::decode(rt, size),
-            Workload::Write => decoding::write(rt, size),
-            Workload::Ids => decoding::payment_ids(rt, size),
-            Workload::Alone => decoding::alone(rt, size),
-            Workload::Records => decoding::records(rt, size),
+            Workload::DoubleSha => hashes::double_sha_chain(rt, size),
+            Workload::Ripemd => hashes::ripemd_chain(rt, size),
+            Workload::RipemdLong => hashes::ripemd_long(rt, size),
+            Workload::Merkle => hashes::merkle_root(rt, size),
+            Workload::Decode => codec::decode(rt, size),
+            Workload::Write => codec::write(rt, size),
+            Workload::Ids => codec::payment_ids(rt, size),
+            Workload::Alone => codec::alone(rt, size),
+            Workload::Records => codec::records(rt, size),
             _ => self.run_scripts(rt, size),
         }
     }
@@ -170,8 +170,8 @@ impl Workload {
             Workload::Hashes => checked(rt, scripts::hashes(alloc), Runner::Alone, size),
             Workload::LongCode => checked(rt, scripts::long_code(alloc), Runner::Alone, size),
             Workload::Conditions => checked(rt, scripts::conditions(alloc), Runner::Alone, size),
-            Workload::Digests => signing::digests(rt, size),
-            Workload::EachInput => signing::each_input(rt, size),
+            Workload::Digests => signatures::digests(rt, size),
+            Workload::EachInput => signatures::each_input(rt, size),
             Workload::Queue(workers) => {
                 checked(rt, to_keys(alloc, size), Runner::Queue(workers), 1)
             },
@@ -191,7 +191,7 @@ impl Workload {
             Workload::CoinsSpend => coin_work::spent(rt, size),
             Workload::HoldCoins => coin_work::held(rt, size),
             Workload::ReadMap => coin_work::read_from_a_map(rt, size),
-            Workload::Connect(workers) => connecting::connected(rt, size, workers),
+            Workload::Connect(workers) => connections::connected(rt, size, workers),
             Workload::EarlyWide => early_work::wide(rt, size),
             _ => match self.growth(size) {
                 Some(growth) => grown(rt, growth),

@@ -8,7 +8,7 @@ use Rattle.coins.specs.declared.coin.Coin.{Coin}
 use Rattle.coins.specs.Coins.{Coins}
 use Rattle.undo.specs.Effect.{after, coins_at, spent_coins, IsApplied}
 use Rattle.connect.specs.Turns.{Turn, turn, turns, effect, spent_in, left_by, full_count}
-use Rattle.connect.specs.inside.Applied.{AreApplied, IsBlockApplied}
+use Rattle.connect.specs.inside.AppliedTransactions.{AreApplied, IsBlockApplied}
 use Rattle.connect.proofs.Steps.{tail_of}
 use Rattle.connect.specs.laws.Folding.{turns_none, turns_next, applied_at}
 

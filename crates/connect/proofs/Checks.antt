@@ -19,7 +19,7 @@ use Rattle.queue.specs.Jobs.{HasInput, IsAccepted, verdict_at}
 use Rattle.queue.specs.laws.Failing.{AcceptsAt, FailsAt}
 use Rattle.queue.specs.Telling.{AreTheWants, IsEnd, want_of, wants_below}
 use Rattle.connect.specs.Scripts.{Check, input_checks, IsFirstRefused, AreWantedAmong, want_first, wants_of}
-use Rattle.connect.specs.inside.Listing.{checks_from}
+use Rattle.connect.specs.inside.ScriptLists.{checks_from}
 
 pub zip_push : {A B : Type 0} (xs : List A) (ys : List B) (x : A) (y : B) → length xs ≡ length ys → zip (xs ++ x ∷ []) (ys ++ y ∷ []) ≡ zip xs ys ++ (x, y) ∷ []
 zip_push [] [] x y h = refl

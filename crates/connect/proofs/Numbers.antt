@@ -11,7 +11,7 @@ use Rattle.interp.specs.declared.job.Job.{Job}
 use Rattle.interp.specs.Question.{question, question_of}
 use Rattle.queue.specs.Jobs.{AreNumbered}
 use Rattle.connect.specs.Scripts.{Check, input_checks}
-use Rattle.connect.specs.inside.Listing.{checks_from}
+use Rattle.connect.specs.inside.ScriptLists.{checks_from}
 
 some_is : {A : Type 0} (x y : A) → ◌≡◌ {A = Option A} (Some x) (Some y) → x ≡ y
 some_is x y h = cc

@@ -23,7 +23,7 @@ use Rattle.connect.specs.Setting.{Setting}
 use Rattle.connect.specs.Turns.{Turn, turn, turns, spent_in, undo_of, left_by, full_count}
 use Rattle.connect.specs.Faults.{connect_rules}
 use Rattle.connect.specs.Scripts.{Check, flags_of, input_checks, script_checks, IsFirstRefused, IsBefore, IsConnectFault}
-use Rattle.connect.specs.inside.Listing.{checks_from}
+use Rattle.connect.specs.inside.ScriptLists.{checks_from}
 use Rattle.connect.specs.laws.Alone.{inputs_of, IsLawfulBlock}
 use Rattle.connect.proofs.Steps.{tail_of}
 use Rattle.connect.proofs.Blocks.{turns_none, turns_next, later_turns, undo_is}

@@ -3,7 +3,7 @@ pub mod Turns
 pub mod Faults
 pub mod Scripts
 pub mod Early
-pub mod Connecting
+pub mod ConnectedBlock
 pub mod inside
 pub mod computed
 pub mod laws

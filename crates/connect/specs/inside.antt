@@ -1,5 +1,5 @@
 -- What private functions and invariants alone cite.
 pub mod Turns
-pub mod Listing
-pub mod Applied
+pub mod ScriptLists
+pub mod AppliedTransactions
 pub mod Early

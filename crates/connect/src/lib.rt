@@ -2,10 +2,10 @@
 #![tactic(auto)]
 
 mod amounts;
-mod connecting;
+mod connect_block;
 mod context;
 mod counts;
-mod disconnecting;
+mod disconnect_block;
 mod early;
 mod inputs;
 pub mod laws;
@@ -15,9 +15,9 @@ mod scripts;
 mod stop;
 mod turn;
 
-pub use connecting::{Applied, apply_in_layer, connect, connect_in_layer};
+pub use connect_block::{Applied, apply_in_layer, connect, connect_in_layer};
 pub use context::{BlockWithIds, Context, Env};
-pub use disconnecting::{disconnect, disconnect_in_layer};
+pub use disconnect_block::{disconnect, disconnect_in_layer};
 pub use early::{early_jobs, script_flags};
 pub use inputs::check_tx_inputs;
 pub use runs_scripts::RunsScripts;

@@ -6,7 +6,7 @@ ghost use Rattle.curve.specs.Known.{Under};
 ghost use Rattle.queue.specs.Jobs.{HasInput};
 ghost use Rattle.sighash.specs.Midstates.{AreOf};
 ghost use Rattle.connect.specs.Scripts.{flags_of, input_checks, IsFirstRefused, AreWantedAmong};
-ghost use Rattle.connect.specs.inside.Listing.{checks_from, checks_in, IsEven};
+ghost use Rattle.connect.specs.inside.ScriptLists.{checks_from, checks_in, IsEven};
 
 use crate::runs_scripts::RunsScripts;
 use coins::Coin;

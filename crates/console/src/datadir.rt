@@ -10,7 +10,7 @@ use crate::fault::Fault;
 use crate::files::{read_table, read_table_file};
 use crate::options::{HEIGHTS as DEFAULT_HEIGHTS, ServeOptions};
 use crate::replay::read_heights_line;
-use crate::saving::heights_line;
+use crate::saves::heights_line;
 use curve::Table;
 pub use host::{FileHost, HostFault};
 use journal::read_heights;

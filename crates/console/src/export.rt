@@ -4,7 +4,7 @@ use crate::datadir::triple_lines;
 use crate::fault::Fault;
 use crate::options::{ExportOptions, Saved};
 use crate::replay::{Inputs, read_inputs};
-use crate::saving::{SavedFiles, heights_line, save_files, save_invalid};
+use crate::saves::{SavedFiles, heights_line, save_files, save_invalid};
 use journal::{Asked, Step, read_journal};
 use std::alloc::Global;
 use std::fs::File;

@@ -2,19 +2,20 @@
 //! history that was saved, pictures of it.
 #![tactic(auto)]
 
+pub mod ahead;
 pub mod audit;
 pub mod command_line;
 pub mod datadir;
-pub mod drawing;
 pub mod export;
+pub mod exports;
 pub mod fault;
 pub mod files;
 pub mod history_tree;
 pub mod options;
+pub mod pictures;
 pub mod progress;
 pub mod replay;
 pub mod report;
-pub mod saving;
-pub mod showing;
+pub mod saves;
 pub mod text;
 pub mod view_options;

@@ -6,7 +6,7 @@ use crate::datadir::{
 use crate::fault::Fault;
 use crate::files::{read_file, read_table, read_table_file};
 use crate::options::Saved;
-use crate::saving::{SavedFiles, read_saved};
+use crate::saves::{SavedFiles, read_saved};
 use block::{ReadFault, SliceSource};
 use chain::{Bytes, Command, Reply, SharedTriple};
 use curve::Table;

@@ -1,8 +1,8 @@
 //! What the programs that tests play have in common: the words of their command line, and a gate.
 #![tactic(auto)]
 
-mod meeting;
+mod gate;
 mod words;
 
-pub use meeting::Meeting;
+pub use gate::Meeting;
 pub use words::{HEIGHTS, Options};

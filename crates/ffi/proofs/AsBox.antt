@@ -16,7 +16,7 @@ use Rattle.std.proofs.alloc.Global.TheLaws as heap_laws
 use Rattle.std.specs.contracts.impls.GlobalAllocator.TheImpl.{ghosts, dict}
 use Rattle.ffi.specs.contracts.session.Session as session
 use Rattle.ffi.proofs.session.Session.TheLaws as session_laws
-use Rattle.ffi.specs.contracts.unboxed.Unboxed as unboxed
+use Rattle.ffi.specs.contracts.box_address.Unboxed as unboxed
 use Rattle.ffi.specs.contracts.kept.Kept as kept
 
 -- the box of a session

@@ -13,7 +13,7 @@ use Rattle.std.proofs.alloc.Global.TheLaws as heap_laws
 use Rattle.std.specs.contracts.impls.GlobalAllocator.TheImpl.{ghosts, dict}
 use Rattle.ffi.specs.contracts.utxo.Utxo as utxo
 use Rattle.ffi.proofs.utxo.Utxo.TheLaws as utxo_laws
-use Rattle.ffi.specs.contracts.unboxed.Unboxed as unboxed
+use Rattle.ffi.specs.contracts.box_address.Unboxed as unboxed
 use Rattle.ffi.specs.contracts.kept_utxo.KeptUtxo as kept
 
 -- the box of such a set

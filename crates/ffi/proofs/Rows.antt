@@ -3,7 +3,7 @@ use Rattle.std.proofs.Common.{◌≡◌, ℕ, ◌+◌, ◌<◌, List, length, ge
 use Rattle.std.proofs.lemmas.List.Sums.{sum_by-take-drop, sum_by-cons}
 use Rattle.ffi.specs.declared.shown.InputRow.{InputRow}
 use Rattle.ffi.specs.declared.shown.OutputRow.{OutputRow}
-use Rattle.ffi.specs.Named.{all_sizes}
+use Rattle.ffi.specs.NamedFailures.{all_sizes}
 use Rattle.ffi.specs.Parts.{input_bytes, output_bytes}
 
 -- where those of the rows before leave less than the next row's, all rows want more than there is

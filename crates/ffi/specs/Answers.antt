@@ -161,7 +161,7 @@ pub record ShowsTip (tip : Tip) (shown : ShownTip) : Type 0 where
   pub length : shown.length ≡ tip.length
   pub status : shown.status ≡ status_number tip.status
 
--- the tip is shown, or there was no memory; or there is none
+-- the tip is shown, or there was no memory; or the list has no tip at that place
 abbrev pub IsTipShown : Option Tip → ShownTip → Type 0 → ℕ → Type 0
 IsTipShown None shown kept result = ((result ≡ 4) ⊎ (result ≡ 1)) × kept
 IsTipShown (Some tip) shown kept result = ((result ≡ 0) × ShowsTip tip shown) ⊎ ((result ≡ 1) × kept)
@@ -176,7 +176,7 @@ IsTipTold (Some s) index shown kept result =
 abbrev pub coin_row : Coin → ShownCoin
 coin_row coin = record { value = coin.value; script = length coin.script; height = coin.height; coinbase = coinbase_number coin.coinbase }
 
--- the coin is shown, and its script where there is room for it; or there is none
+-- the coin is shown, and its script where there is room for it; or there is no such coin
 abbrev pub IsCoinShown : Option Coin → ShownCoin → ShownCoin → List ℕ → List ℕ → ℕ → Type 0
 IsCoinShown None before shown room script result = (result ≡ 4) × (shown ≡ before) × (script ≡ room)
 IsCoinShown (Some coin) before shown room script result = (shown ≡ coin_row coin) × IsFilled coin.script room script result

@@ -5,12 +5,12 @@ pub mod Blocks
 pub mod Codes
 pub mod Hashes
 pub mod Headers
-pub mod Keeping
+pub mod Kept
 pub mod Known
 pub mod Lookups
 pub mod Merkle
-pub mod Named
-pub mod Parsed
+pub mod NamedFailures
+pub mod ParsedTransaction
 pub mod Parts
 pub mod Refusals
 pub mod Room

@@ -17,7 +17,7 @@ use Rattle.ffi.specs.SessionState.{SessionState, rules_of, tree_of}
 
 -- ---- ids
 
--- the id is reported, or there is none
+-- the id is reported, or none is found
 abbrev pub IsIdShown : Option Id → Name → Name → ℕ → Type 0
 IsIdShown None before told result = (result ≡ 4) × (told ≡ before)
 IsIdShown (Some id) before told result = (result ≡ 0) × (id_of told ≡ id)

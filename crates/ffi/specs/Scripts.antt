@@ -25,7 +25,7 @@ pub record ShowsOp (script op : List ℕ) (shown : ShownOp) : Type 0 where
   pub pushed : shown.pushed ≡ length (pushed_of op)
   pub last : drop (shown.length - shown.pushed) op ≡ pushed_of op
 
--- the first of a script's opcodes, and the others are the opcodes of what is behind it; or there is none
+-- the first of a script's opcodes, and the others are the opcodes of what is behind it; or the script is empty
 abbrev pub IsOpShown : List ℕ → List (List ℕ) → ShownOp → Type 0 → ℕ → Type 0
 IsOpShown script [] shown kept result = (result ≡ 4) × kept
 IsOpShown script (op ∷ others) shown kept result =

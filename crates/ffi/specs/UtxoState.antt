@@ -14,7 +14,7 @@ use Rattle.rules.specs.Alone.{alone_rules}
 use Rattle.connect.specs.Setting.{Setting}
 use Rattle.connect.specs.Turns.{effect, undo_of}
 use Rattle.connect.specs.Scripts.{IsBefore, IsConnectFault, AreWantedByBlock}
-use Rattle.connect.specs.Connecting.{IsConnected}
+use Rattle.connect.specs.ConnectedBlock.{IsConnected}
 
 -- a block that was connected, and the coins that each of its transactions but the first spent
 pub record Connected : Type 0 where

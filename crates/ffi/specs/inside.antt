@@ -1,8 +1,8 @@
 -- What private functions and invariants alone cite.
-pub mod Stored
+pub mod Storage
 pub mod Parts
 pub mod Known
 pub mod Signatures
-pub mod Agreeing
+pub mod Agreement
 pub mod Utxo
 pub mod Wide

@@ -16,7 +16,7 @@ use crate::answers::{
     as_told, shown_tip,
 };
 use crate::known::tell_line;
-use crate::listing::{outpoint, tell_coin};
+use crate::lists::{outpoint, tell_coin};
 use crate::session::Session;
 use crate::slot::{Slot, put, take};
 use block::Bytes;

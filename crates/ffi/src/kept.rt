@@ -1,15 +1,15 @@
 //! A session as C keeps it: by the address of its box.
 //!
 //! C sees an address without a type, since what crosses to C may not lead to a type with parts that are shared. Only
-//! functions of this file, of `kept_tx.rt` and of `unboxed.rt` name the address; those are proved by hand.
+//! functions of this file, of `kept_tx.rt` and of `box_address.rt` name the address; those are proved by hand.
 
 ghost use Rattle.std.specs.Prelude.{◌≡◌, Option, None, Some, IsSome};
 ghost use Rattle.ffi.specs.SessionState.{SessionState};
-ghost use Rattle.ffi.specs.Keeping.{kept_owns};
-ghost use Rattle.ffi.specs.inside.Stored.{kept_coded};
+ghost use Rattle.ffi.specs.Kept.{kept_owns};
+ghost use Rattle.ffi.specs.inside.Storage.{kept_coded};
 
+use crate::box_address::Unboxed;
 use crate::session::Session;
-use crate::unboxed::Unboxed;
 use std::alloc::Global;
 use std::marker::Model;
 use std::ptr::null_mut;

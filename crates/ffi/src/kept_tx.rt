@@ -4,10 +4,10 @@
 
 ghost use Rattle.std.specs.Prelude.{◌≡◌, Option, None, Some, IsSome};
 ghost use Rattle.sighash.specs.declared.precomputed.PrecomputedTx.{PrecomputedTx as TxValue};
-ghost use Rattle.ffi.specs.Keeping.{kept_tx_owns};
-ghost use Rattle.ffi.specs.inside.Stored.{kept_tx_coded};
+ghost use Rattle.ffi.specs.Kept.{kept_tx_owns};
+ghost use Rattle.ffi.specs.inside.Storage.{kept_tx_coded};
 
-use crate::unboxed::Unboxed;
+use crate::box_address::Unboxed;
 use sighash::PrecomputedTx;
 use std::alloc::Global;
 use std::marker::Model;

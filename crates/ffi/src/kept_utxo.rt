@@ -3,11 +3,11 @@
 //! Only the three functions below that name the address are proved by hand.
 
 ghost use Rattle.std.specs.Prelude.{◌≡◌, Option, None, Some, IsSome};
-ghost use Rattle.ffi.specs.Keeping.{kept_utxo_owns};
+ghost use Rattle.ffi.specs.Kept.{kept_utxo_owns};
 ghost use Rattle.ffi.specs.UtxoState.{UtxoState};
-ghost use Rattle.ffi.specs.inside.Stored.{kept_utxo_coded};
+ghost use Rattle.ffi.specs.inside.Storage.{kept_utxo_coded};
 
-use crate::unboxed::Unboxed;
+use crate::box_address::Unboxed;
 use crate::utxo::Utxo;
 use std::alloc::Global;
 use std::marker::Model;

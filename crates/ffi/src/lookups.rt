@@ -13,7 +13,7 @@ ghost use Rattle.ffi.specs.SessionState.{rules_of, tree_of};
 use crate::answers::{
     CLOSED, DONE, MEMORY, NONE, Name, ShownCoin, ShownHeader, ShownSpent, TOO_SMALL,
 };
-use crate::listing::coin_row;
+use crate::lists::coin_row;
 use crate::room::put as put_front;
 use crate::session::Session;
 use crate::slot::{Slot, put, take};

@@ -1,12 +1,12 @@
 //! An input of a kept transaction, judged by what a set of coins has learnt of signatures.
 
 ghost use Rattle.std.specs.Prelude.{◌≡◌};
-ghost use Rattle.ffi.specs.Named.{IsInputKnown, told_of};
-ghost use Rattle.ffi.specs.Parsed.{IsOfKept, tx_kept};
+ghost use Rattle.ffi.specs.NamedFailures.{IsInputKnown, told_of};
+ghost use Rattle.ffi.specs.ParsedTransaction.{IsOfKept, tx_kept};
 
 use crate::answers::{CLOSED, NO_INPUT};
-use crate::named::tell_failure;
-use crate::parsed::verify_kept;
+use crate::named_failures::tell_failure;
+use crate::parsed_transaction::verify_kept;
 use crate::shown::{InputTold, KnownQuestion};
 use crate::tx_slot::{TxSlot, put_tx, take_tx};
 use crate::utxo::Utxo;

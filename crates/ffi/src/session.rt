@@ -21,7 +21,7 @@ ghost use Rattle.ffi.specs.SessionState.{IsLearntBy, IsNoStep, KeepsRules, known
 ghost use Rattle.ffi.specs.Signatures.{valid_in, invalid_in, is_by_need};
 ghost use Rattle.ffi.specs.inside.Signatures.{known_in};
 
-mod looking;
+mod lookups;
 
 use crate::answers::{CONTRADICTION, DONE, MEMORY, WANTS};
 use crate::signatures::Signatures;

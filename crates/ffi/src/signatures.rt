@@ -30,7 +30,7 @@ impl Signatures {
 
 impl KnowsSignatures for Signatures {
     ghost use Rattle.ffi.specs.Signatures.{valid_in};
-    ghost use Rattle.ffi.specs.inside.Agreeing.{agrees_in};
+    ghost use Rattle.ffi.specs.inside.Agreement.{agrees_in};
 
     ghost known = { known_in };
 

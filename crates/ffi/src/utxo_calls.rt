@@ -11,7 +11,7 @@ ghost use Rattle.curve.specs.Triple.{triple_of};
 ghost use Rattle.ffi.specs.Answers.{IsCoinShown, IsWantShown, above_of, close_number, outpoint_of};
 ghost use Rattle.ffi.specs.Known.{asked_of};
 ghost use Rattle.ffi.specs.Lookups.{IsSpentShown};
-ghost use Rattle.ffi.specs.Parsed.{IsOfKept};
+ghost use Rattle.ffi.specs.ParsedTransaction.{IsOfKept};
 ghost use Rattle.ffi.specs.Refusals.{IsBlockTold, IsFaultTold, IsTold};
 ghost use Rattle.ffi.specs.UtxoState.{IsLearnt, IsTakenBack, known_by};
 ghost use Rattle.ffi.specs.Utxo.{AreInputsTold, Becomes, IsConnectTold, IsNextIn, IsPut, IsUtxoOpened, coin_of, fault_row, nearest, setting_of, spent_last};
@@ -19,7 +19,7 @@ ghost use Rattle.ffi.specs.Utxo.{AreInputsTold, Becomes, IsConnectTold, IsNextIn
 use crate::answers::{CLOSED, DONE, FULL, MEMORY, NONE, Name, Place, ShownCoin, ShownSpent};
 use crate::block_rules::refusal;
 use crate::known::tell_line;
-use crate::listing::{outpoint, tell_coin, tell_next};
+use crate::lists::{outpoint, tell_coin, tell_next};
 use crate::lookups::tell_spent;
 use crate::shown::{BlockSetting, Fault, InputsTold};
 use crate::transactions::front;

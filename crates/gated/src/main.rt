@@ -1,11 +1,11 @@
 //! The program of the command line, with a gate round each script and with streams that fail.
 #![tactic(auto)]
 
-mod playing;
+mod play;
 
 use anyhow::Context;
 use doors::{Meeting, Options};
-use playing::play_program;
+use play::play_program;
 use std::env;
 
 fn main(rt: HostRuntime) -> anyhow::Result<()> {

@@ -5,7 +5,7 @@ use Rattle.block.specs.declared.blk_fault.BlkFault.{BlkFault}
 use Rattle.block.specs.Blk.{record_bytes, IsRecord, IsFault}
 use Rattle.block.specs.Progress.{Progress}
 use Rattle.block.specs.laws.Files.{Gave}
-use Rattle.journal.specs.Saved.{IsRefused}
+use Rattle.journal.specs.SavedRun.{IsRefused}
 
 -- the reader gave these blocks of a file that begins at this place, and goes on behind them
 pub record HasGiven (place : ℕ) (file : List ℕ) (blocks : List (List ℕ)) (now : Progress) : Type 0 where

@@ -2,4 +2,4 @@ pub mod Agreement
 pub mod Found
 pub mod Heights
 pub mod Line
-pub mod Saved
+pub mod SavedRun

@@ -1,25 +1,25 @@
 //! What is saved of a run, written and read back, and its replay.
 #![tactic(auto)]
 
+mod blk_records;
 mod difference;
 mod fault;
 mod finding;
 mod heights;
 mod lines;
 mod quick;
-mod reading;
-mod recorded;
 mod records;
 mod replies;
+mod saved_journal;
 mod state_replay;
 mod step;
 
+pub use blk_records::{Records, read_out, read_records};
 pub use difference::{Refuted, Replayer, first_refuted};
 pub use fault::JournalFault;
 pub use finding::Finding;
 pub use heights::read_heights;
-pub use reading::{Records, read_out, read_records};
-pub use recorded::read_journal;
 pub use records::{RecordFault, blk_file, put_record};
+pub use saved_journal::read_journal;
 pub use state_replay::{ReplayedState, replayed_state};
 pub use step::{Asked, Step, block_of};

@@ -4,7 +4,7 @@ ghost use Rattle.std.specs.Prelude.{◌≡◌, ◌++◌, ◌<◌, ◌≤◌, tru
 ghost use Rattle.std.specs.List.{flat_map, list_any};
 ghost use Rattle.wire.specs.Spelling.{limit};
 ghost use Rattle.block.specs.Blk.{record_bytes};
-ghost use Rattle.journal.specs.Saved.{record_of, is_long};
+ghost use Rattle.journal.specs.SavedRun.{record_of, is_long};
 ghost use Rattle.journal.specs.declared.records.RecordFault.TheVariants as faults;
 
 use chain::{Command, Entry};

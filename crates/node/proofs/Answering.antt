@@ -18,8 +18,8 @@ use Rattle.chain.specs.laws.Learnt.{one_agrees}
 use Rattle.view.specs.Origin.{Origin, machine}
 use Rattle.view.specs.ViewState.{IsLegal}
 use Rattle.node.specs.Pass.{Pass, IsLater, IsWrite}
-use Rattle.node.specs.inside.Keeping.{IsReplyTo, is_step}
-use Rattle.node.specs.inside.Writing.{IsMark, IsWriteAnswer}
+use Rattle.node.specs.inside.Kept.{IsReplyTo, is_step}
+use Rattle.node.specs.inside.Writes.{IsMark, IsWriteAnswer}
 
 -- the answer of a step
 pub answer_step : (p q : Pass) (c : Command) (at : ℕ) (r : Reply) → is_step r ≡ true → IsReplyTo c r → IsWrite p q c at r → IsWriteAnswer p q c at r

@@ -21,7 +21,7 @@ use Rattle.chain.specs.Context.{first_fault}
 use Rattle.chain.specs.Submission.{Outcome, submit_says, reply_by_reason, answer_known, answer_added, outcome_by_fault, outcome_of_submission}
 use Rattle.chain.specs.Step.{Submit, Invalidate, Reconsider, Precious, mark_says, outcome_of_invalidate, outcome_of_reconsider, outcome_of_precious, step}
 use Rattle.chain.specs.Commands.{submit_step, command_step, outcome}
-use Rattle.node.specs.inside.Keeping.{is_step, IsReplyTo, IsUndecodable}
+use Rattle.node.specs.inside.Kept.{is_step, IsReplyTo, IsUndecodable}
 
 -- a reply to a submission that was a step
 abbrev IsJudgement : SubmitReply → Type 0

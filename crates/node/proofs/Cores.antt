@@ -33,7 +33,7 @@ use Rattle.view.specs.declared.chain_info.ChainInfo.{ChainInfo}
 use Rattle.view.specs.laws.Exact.{opening_exact}
 use Rattle.node.specs.Told.{undo_in}
 use Rattle.node.specs.inside.Brought.{IsInfoOfCore}
-use Rattle.node.specs.inside.Keeping.{IsReplyTo, IsUndecodable, is_step}
+use Rattle.node.specs.inside.Kept.{IsReplyTo, IsUndecodable, is_step}
 use Rattle.node.specs.inside.PublishedState.{IsCoreOf, IsCoreStep, with_its_coins, entry_with_reply}
 use Rattle.node.proofs.Few.{height-few}
 use Rattle.node.proofs.Kept.{Stepped, opens, taken_kept, taken_reply, taken_step}

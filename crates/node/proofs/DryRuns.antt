@@ -18,10 +18,10 @@ use Rattle.activate.specs.CoreState.{CoreState}
 use Rattle.view.specs.Origin.{Origin}
 use Rattle.view.specs.ViewState.{state_after}
 use Rattle.node.specs.declared.published_history.knowledge.Knowledge.{Knowledge}
-use Rattle.node.specs.inside.Keeping.{IsReplyTo}
+use Rattle.node.specs.inside.Kept.{IsReplyTo}
 use Rattle.node.specs.inside.Knowledge.{IsKnowledge, known_of}
 use Rattle.node.specs.inside.PublishedState.{IsCoreOf, IsCoreReply, IsReplyAfter}
-use Rattle.node.specs.inside.Writing.{IsSubmission}
+use Rattle.node.specs.inside.Writes.{IsSubmission}
 use Rattle.node.proofs.Comes.{comes}
 use Rattle.node.proofs.Knowing.{agrees_here}
 

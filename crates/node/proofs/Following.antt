@@ -5,7 +5,7 @@ use Rattle.coins.specs.Coins.{Coins}
 use Rattle.coins.specs.declared.coin.Coin.{Coin}
 use Rattle.coins.specs.Next.{IsNext}
 use Rattle.node.specs.Told.{AreNext}
-use Rattle.node.specs.inside.Following.{Leads}
+use Rattle.node.specs.inside.CoinOrder.{Leads}
 
 -- one more
 pub one-more : (m : Coins) (above last : Option OutPoint) (es : List (OutPoint × Coin)) (e : OutPoint × Coin) → Leads m above es last → IsNext m last (Some e) → Leads m above (es ++ e ∷ []) (Some e.0)

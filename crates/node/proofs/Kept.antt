@@ -23,7 +23,7 @@ use Rattle.chain.specs.laws.Learnt.{agreed_with_front, are_news-push, one_agrees
 use Rattle.view.specs.Origin.{Origin, known_in, machine}
 use Rattle.view.specs.ViewState.{IsLegal, IsLegalWith, state_after}
 use Rattle.view.specs.laws.Exact.{opening_legal}
-use Rattle.node.specs.inside.Keeping.{KeepsHistory, IsReplyTo, IsUndecodable, is_step}
+use Rattle.node.specs.inside.Kept.{KeepsHistory, IsReplyTo, IsUndecodable, is_step}
 use Rattle.node.proofs.Comes.{comes}
 use Rattle.node.proofs.Few.{AreFew, few-outcome}
 

@@ -31,7 +31,7 @@ use Rattle.node.specs.inside.Knowledge.{IsKnowledge, known_behind, known_of}
 use Rattle.node.specs.declared.published_history.refusal.Refusal.{Refusal}
 use Rattle.node.specs.declared.published_history.refusal.Refusal.TheVariants as refusal
 use Rattle.node.specs.inside.PublishedState.{AreCoreSteps, IsCoreOf, IsLockedAt, entry_with_reply}
-use Rattle.node.specs.inside.Refused.{IsWantOf, IsWantAfter}
+use Rattle.node.specs.inside.Refusal.{IsWantOf, IsWantAfter}
 
 -- it is what is known after the history
 pub known_is : (o : Origin) (k : Knowledge) (es : List Entry) → IsKnowledge o k es → known_of k ≡ known_in o es

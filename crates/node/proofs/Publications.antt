@@ -23,7 +23,7 @@ use Rattle.chain.specs.Learnt.{AreNews, found_in, known_by}
 use Rattle.chain.specs.laws.Learnt.{agreed_with_front, one_agrees}
 use Rattle.view.specs.Origin.{Origin, known_in, machine}
 use Rattle.view.specs.ViewState.{ViewState, IsExact, IsInfo, IsLegal, IsLegalWith, state_after, coins_after, after_publication, after_publications}
-use Rattle.view.specs.Following.{IsNext, IsOwed, AllOwed, AllFollow}
+use Rattle.view.specs.NextPublications.{IsNext, IsOwed, AllOwed, AllFollow}
 use Rattle.view.specs.declared.chain_info.ChainInfo.{ChainInfo}
 use Rattle.view.specs.declared.publication.Publication.{Publication}
 use Rattle.view.specs.laws.Exact.{all_exact, found-push, news-push, same_origin}

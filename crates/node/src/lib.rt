@@ -2,24 +2,24 @@
 #![tactic(auto)]
 
 mod answer;
+mod dry_run;
 mod early;
 mod entries;
 mod fault;
-mod judging;
 pub mod laws;
 mod learnt;
-mod looking;
+mod lookups;
 mod naming;
 mod node;
 mod note;
 mod published_history;
 mod reader_home;
-mod reading;
+mod reads;
 mod seat;
-mod writing;
+mod writes;
 
 pub use answer::{Learning, Stamped, UnspentOutput};
-pub use chain::{Bytes, Command, Entry, MarkReply, Reply, SubmitReply};
+pub use chain::{Bytes, Command, Entry, MarkReply, Reply, Submission, SubmitReply};
 pub use curve::{KeptTriple, Table};
 pub use fault::{EndFault, Fault, OpenFault};
 pub use naming::Opening;

@@ -3,7 +3,6 @@
 
 mod arrangement;
 mod block_tree;
-mod escaped;
 mod geometry;
 mod legend;
 mod rows;
@@ -14,6 +13,7 @@ mod subtrees;
 mod svg;
 mod text;
 mod view;
+mod xml_text;
 
 pub use block_tree::{BlockTree, TreeBlock};
 pub use status::Status;

@@ -2,13 +2,13 @@
 
 use crate::arrangement::{Finding, Piece, pieces};
 use crate::block_tree::BlockTree;
-use crate::escaped::write_escaped;
 use crate::geometry::{LEGEND_LINE, Layout};
 use crate::legend::{MEANINGS, Meaning};
 use crate::shapes::{HALF, Shape};
 use crate::starts::Order;
 use crate::status::Look;
 use crate::view::{Fold, View};
+use crate::xml_text::write_escaped;
 use std::alloc::{AllocError, Global};
 
 /// How far one meaning of the legend lies behind the next in its line, in pixels.

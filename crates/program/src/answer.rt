@@ -2,7 +2,7 @@
 
 use crate::told::{Block, Tips, Told};
 use hash::Id;
-use node::{Fault, MarkReply, Naming, Node, Seat, Stamped, Tip, UnspentOutput};
+use node::{Bytes, Fault, MarkReply, Naming, Node, Seat, Stamped, Tip, UnspentOutput};
 use scenario::{Definitions, Request};
 use std::fmt;
 use std::sync::Wait;
@@ -52,6 +52,21 @@ where
     R: Threads + Wait + Sync,
 {
     let reply = seat.submit(rt, node, bytes, now)?;
+    Ok(stamped(reply.at, Told::Submit(reply.value)))
+}
+
+/// The same for shared bytes.
+pub fn submitted_bytes<'d, J: Naming, R>(
+    rt: &R,
+    node: &Node<'_, J>,
+    seat: &mut Seat<'_, J>,
+    bytes: Bytes,
+    now: u64,
+) -> Result<Stamped<Told<'d>>, Fault>
+where
+    R: Threads + Wait + Sync,
+{
+    let reply = seat.submit_bytes(rt, node, bytes, now)?;
     Ok(stamped(reply.at, Told::Submit(reply.value)))
 }
 

@@ -1,11 +1,11 @@
 //! What clients ask of their seats, one after the other.
 
-use crate::answer::{Answer, asked, submitted};
+use crate::answer::{Answer, asked, submitted_bytes};
 use block::BlkFault;
+use console::ahead::{NextBlock, RecordsAhead};
 use console::fault::{Fault, Stop};
 use console::options::STANDARD;
 use console::replay::BLK_MOMENT;
-use journal::Records;
 use node::{Naming, Node, Seat};
 use scenario::{Call, Definitions, Request};
 use std::alloc::{AllocError, AllocFailed};
@@ -93,20 +93,23 @@ where
 pub fn answer_record<'d, J: Naming, R>(
     rt: &R,
     node: &Node<'_, J>,
-    records: &mut Records<'_>,
+    records: &mut RecordsAhead<'_>,
     seat: &mut Seat<'_, J>,
     number: u64,
 ) -> Result<Option<Answer<'d>>, Ended>
 where
     R: AllocGlobal + Threads + Wait + Sync,
 {
-    let Some(record) = records.next()? else {
+    let Some(NextBlock { bytes, submission }) = records.next(rt)? else {
         return Ok(None);
     };
+    if let Some(submission) = submission {
+        seat.hand_in(submission);
+    }
     let command = format!(in rt.alloc(); "record {number}")?;
     Ok(Some(Answer {
         command,
-        outcome: submitted(rt, node, seat, record.as_slice(), BLK_MOMENT),
+        outcome: submitted_bytes(rt, node, seat, bytes, BLK_MOMENT),
         is_submission: true,
     }))
 }

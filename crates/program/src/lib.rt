@@ -3,12 +3,12 @@
 
 mod answer;
 mod clients;
-mod expected;
+mod comparison;
+mod node_run;
 mod objects;
 mod output;
-mod playing;
+mod play;
 mod run;
-mod running;
 mod told;
 mod writer;
 

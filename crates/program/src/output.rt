@@ -1,7 +1,7 @@
 //! The standard output of a run, written as it comes.
 
 use crate::answer::Answer;
-use crate::expected::compare;
+use crate::comparison::compare;
 use crate::objects;
 use console::fault::Fault;
 use console::files::print;

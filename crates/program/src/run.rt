@@ -3,14 +3,14 @@
 ghost use Rattle.std.specs.Prelude.{◌≡◌, ◌≤◌, IfOk, OnErr};
 
 use crate::objects;
-use crate::playing::run;
+use crate::play::run;
 use console::audit::{Audited, audit};
-use console::drawing::draw_saved;
 use console::export::export;
+use console::exports::show;
 use console::fault::Fault;
 use console::files::print;
 use console::options::{AuditOptions, Form, NAME, Options, STANDARD, no_text, text_asked_for};
-use console::showing::show;
+use console::pictures::draw_saved;
 use journal::Finding;
 use node::{Gate, Open, Reply};
 use server::serve;

@@ -1,4 +1,4 @@
-//! Jobs that early verdicts have at the same place.
+//! Jobs with an early verdict at the same place.
 
 ghost use Rattle.std.specs.Prelude.{◌≡◌, ◌-◌, ◌<◌, ◌≤◌, IfOk, IsTrue, length};
 ghost use Rattle.queue.specs.Early.{AreAllAsked, AreAskedAt, IsAskedAt};
@@ -10,8 +10,8 @@ use interp::Job;
 use std::alloc::Global;
 use wire::Memory;
 
-/// Of each job whether the first of these verdicts has it at the same place; no list at all where they want nothing. A block's
-/// early jobs are its jobs, mostly, in the same order.
+/// For each job, whether the first of these verdicts is of it, at the same place; an empty list if they want nothing.
+/// Mostly a block's early jobs are its jobs in the same order.
 pub(crate) fn asked_jobs(
     alloc: Global,
     jobs: &[Job],
@@ -27,7 +27,7 @@ pub(crate) fn asked_jobs(
     }
 }
 
-/// Of each job whether these verdicts have it at the same place.
+/// For each job, whether these verdicts have it at the same place.
 fn asked_by(
     alloc: Global,
     jobs: &[Job],
@@ -46,8 +46,8 @@ fn asked_by(
     Ok(asked)
 }
 
-/// Whether the verdict at a job's place is of that job. A job that goes on with the transaction of the job before, whose
-/// verdict was its own, isn't compared as a whole: of a transaction with thousands of inputs that would take long.
+/// Whether the verdict at a job's place is of that job. A job of the same transaction as a job before it that had its own
+/// verdict isn't compared as a whole: with thousands of inputs this would take long.
 fn is_asked(jobs: &[Job], numbers: &[usize], own: &Verdicts, place: usize, before: bool) -> bool
     requires place { place < length jobs.now }
     requires numbered { AreNumbered numbers.now jobs.now }

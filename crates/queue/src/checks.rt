@@ -1,4 +1,4 @@
-//! What the workers go through: places, each with a verdict.
+//! Places, each with a verdict, which workers go through.
 
 ghost use Rattle.std.specs.Prelude.{◌≡◌, ℕ, ◌<◌, Bool, IfOk, IfSome, None, Option};
 ghost use Rattle.interp.specs.Answer.{Answer, Says, Wants};
@@ -17,28 +17,28 @@ pub trait Places {
 
     ghost verdict: { Self → ℕ → Answer Bool };
 
-    /// The answers that are known already.
+    /// The known answers.
     ghost known_at: { Self → ℕ → Option Bool };
 
     fn count_places(&self) -> usize
         ensures { result ≡ count self.now };
 
-    /// The answer for a place, where it is known already.
+    /// The answer for a place, if it is known.
     fn known(&self, place: usize) -> Option<bool>
         requires { place < count self.now }
         ensures value { result ≡ known_at self.now place }
         ensures right { IfSome result (λ answer. verdict self.now place ≡ Says answer) };
 
-    /// The signature that a place wants, where that was found out before and nothing is known of it still.
+    /// The signature that a place wants, if an earlier run said so and there is still no verdict on it.
     fn wanted(&self, place: usize) -> Option<&KeptTriple>
         requires { place < count self.now }
         ensures { IfSome result (λ t. verdict self.now place ≡ Wants t.now) };
 
-    /// How much there is to do at a place, roughly, in bytes of scripts.
+    /// Roughly the work at a place, in bytes of scripts.
     fn weight(&self, place: usize) -> usize
         requires { place < count self.now };
 
-    /// The verdict on a place, of which no answer is known.
+    /// The verdict on a place without a known answer.
     fn judge(&self, alloc: Global, place: usize) -> Result<Verdict, Memory>
         requires place { place < count self.now }
         requires unknown { known_at self.now place ≡ None }

@@ -1,4 +1,4 @@
-//! Who runs jobs ahead of the caller.
+//! Crews, which run jobs ahead of the caller.
 
 ghost use Rattle.std.specs.Prelude.{◌≡◌, ◌≤◌, All, IfOk};
 ghost use denote.Param.Send.{IsSync};
@@ -18,16 +18,16 @@ use std::sync::atomic::AtomicU64;
 use std::thread::{Threads, map_indices};
 use wire::Memory;
 
-/// Who runs jobs ahead of the caller, by what a judge knows: threads, or nobody. Whoever takes a crew needs no leave to
-/// start threads.
+/// A crew runs jobs before the caller does, with what a judge knows of signatures: it is threads, or nobody. A function
+/// that takes a crew needs no handle that starts threads.
 pub trait Crew<S: Judges> {
-    /// What a crew needs to know of its own type: of threads, that they may share the handle that starts them.
+    /// A fact on the crew's own type: threads may share the handle that starts them.
     ghost is_ready: { Self → Type 0 };
 
-    /// There is one proof of it, so that a struct can keep it beside a crew.
+    /// That fact has one proof, so a struct can keep it next to a crew.
     ghost ready_once: { (crew : Self) → IsProp (is_ready crew) };
 
-    /// What was found of the jobs of a list, be it little or nothing.
+    /// The verdicts that the crew found, on any number of the list's jobs, also on none.
     fn run_ahead(
         &self,
         alloc: Global,
@@ -40,7 +40,7 @@ pub trait Crew<S: Judges> {
             (verdict_at (S.known list.now.by.now) list.now.jobs.now)) };
 }
 
-/// Threads, as many as there are workers.
+/// A crew of one thread a worker.
 #[derive(Clone, Copy)]
 pub struct Threaded<'r, R> {
     pub rt: &'r R,
@@ -78,7 +78,7 @@ impl<'r, R: Threads + Sync> Crew<KnownSignatures> for Threaded<'r, R> {
     }
 }
 
-/// Nobody: the caller runs every job, whatever the number of workers.
+/// A crew of nobody: the caller runs every job, whatever the number of workers.
 #[derive(Clone, Copy)]
 pub struct Alone;
 
@@ -100,7 +100,7 @@ impl<S: Judges> Crew<S> for Alone {
     }
 }
 
-/// What so many workers find. One worker has nothing to run ahead of.
+/// What this number of workers finds. One worker finds nothing, as the caller would only wait for it.
 pub(crate) fn in_threads<R: Threads + Sync, G: Gate + Sync, C: Places + Sync>(
     rt: &R,
     alloc: Global,
@@ -129,7 +129,7 @@ pub(crate) fn in_threads<R: Threads + Sync, G: Gate + Sync, C: Places + Sync>(
     gather(alloc, list, reports)
 }
 
-/// All that the workers found, if none ran out of memory.
+/// Joins what the workers found, if none ran out of memory.
 fn gather<C: Places>(
     alloc: Global,
     _list: &C,
@@ -145,11 +145,11 @@ fn gather<C: Places>(
     Ok(all)
 }
 
-/// So much a worker has to run at least, of what places weigh: starting a thread costs as much as some eight payments' scripts.
+/// The least weight of places for each worker: starting a thread costs as much as the scripts of some eight payments.
 const FOR_EACH_WORKER: usize = 2_000;
 
-/// How many workers have something to run: no more than there are, than places whose answer isn't known, and than have enough
-/// to run that it is worth starting them.
+/// How many workers to start: at most `workers`, one for each place that has to be run, and one for each
+/// `FOR_EACH_WORKER` of their weight. A place isn't run if its answer or the signature that it wants is known.
 pub(crate) fn busy_workers<C: Places>(list: &C, workers: usize) -> usize
     ensures most { result ≤ workers }
     ensures places { result ≤ C.count list.now }
@@ -160,7 +160,7 @@ pub(crate) fn busy_workers<C: Places>(list: &C, workers: usize) -> usize
         if left.min(weight / FOR_EACH_WORKER) >= workers {
             return workers;
         }
-        if list.known(place).is_none() {
+        if list.known(place).is_none() && list.wanted(place).is_none() {
             left += 1;
             weight = weight.saturating_add(list.weight(place));
         }

@@ -1,4 +1,4 @@
-//! Answers that are got before they are asked for.
+//! Verdicts that are found before the lock is taken.
 
 ghost use Rattle.std.specs.Prelude.{◌≡◌, ℕ, ◌<◌, ◌≤◌, [], ◌∷◌, ◌++◌, All, IfOk, IfSome, None, OnOk, length, vec_len};
 ghost use Rattle.queue.specs.Ahead.{answer_of};
@@ -23,7 +23,7 @@ use std::alloc::Global;
 use std::thread::{Threads, for_each_mut};
 use wire::Memory;
 
-/// What is found of each job: whether it is accepted, or which signature it wants.
+/// For each job, whether it is accepted, or which signature it wants.
 #[derive(Drop)]
 struct Answers {
     answers: Vec<Option<bool>>,
@@ -31,7 +31,7 @@ struct Answers {
 }
 
 impl Answers {
-    /// That of one job more.
+    /// Adds the next job's verdict.
     fn add(&mut self, verdict: Verdict) -> Result<(), Memory>
         ensures answers { OnOk result (self.new.answers.items
             ≡ self.old.answers.items ++ said (answer_of verdict) ∷ []) }
@@ -49,7 +49,7 @@ impl Answers {
     }
 }
 
-/// The verdicts of jobs. No job is skipped; one that wants a signature of which no verdict is known has none.
+/// The verdicts of jobs. No job is skipped; one that wants a signature without a known verdict has none.
 pub fn check_early<'t, R: Threads + Sync, G: Gate + Sync>(
     rt: &R,
     alloc: Global,
@@ -66,7 +66,7 @@ pub fn check_early<'t, R: Threads + Sync, G: Gate + Sync>(
     Ok(Verdicts::of(jobs, source, answers, wants))
 }
 
-/// What is found of each job, in order.
+/// What each job's scripts answer, in order.
 fn early_answers<R: Threads + Sync, G: Gate + Sync>(
     rt: &R,
     alloc: Global,
@@ -89,7 +89,7 @@ fn early_answers<R: Threads + Sync, G: Gate + Sync>(
     }
 }
 
-/// All of these jobs, of which no answer is known.
+/// All of these jobs, none with a known answer.
 fn all_of<'a, S: Judges>(jobs: &'a [Job<'a>], by: &'a S) -> JobList<'a, S>
     requires { All HasInput jobs.now }
     ensures jobs { (result.jobs.now ≡ jobs.entry.now) × (result.count ≡ length jobs.entry.now) }
@@ -106,7 +106,7 @@ fn all_of<'a, S: Judges>(jobs: &'a [Job<'a>], by: &'a S) -> JobList<'a, S>
     }
 }
 
-/// What is found at each place, if there was memory for each.
+/// What is found at each place, if there was memory for all.
 fn all_answers<R: Threads + Sync, G: Gate + Sync, C: Places + Sync>(
     rt: &R,
     alloc: Global,
@@ -134,7 +134,7 @@ fn all_answers<R: Threads + Sync, G: Gate + Sync, C: Places + Sync>(
     Ok(found)
 }
 
-/// The verdict on each place on which there was memory for one.
+/// The verdict on each place, except where there was no memory.
 fn verdicts<R: Threads + Sync, G: Gate + Sync, C: Places + Sync>(
     rt: &R,
     alloc: Global,

@@ -18,7 +18,7 @@ use interp::Job;
 use std::alloc::Global;
 use wire::Memory;
 
-/// Who judges signatures and who runs scripts, with the verdicts that were got before.
+/// The judge of signatures, the crew that runs scripts, and the verdicts that were found earlier.
 #[derive(Drop)]
 pub struct Runs<'a, S: Judges, C: Crew<S>> {
     pub by: &'a S,
@@ -27,9 +27,9 @@ pub struct Runs<'a, S: Judges, C: Crew<S>> {
     pub workers: usize,
 }
 
-/// The least place whose job isn't accepted, or none; or the signatures that have to be found out first: all that the jobs
-/// before the first refused one want, so that one round finds many. A job that an early verdict fits isn't run, and
-/// neither is, by the caller, one behind a refused one.
+/// The first job that is refused, if any; or the signatures that have to be verified first: all that the jobs before the
+/// first refused one want, so that one round finds many. A job with a fitting early verdict isn't run, nor does the caller
+/// run one behind a refused job.
 pub fn first_failure<S: Judges, C: Crew<S>>(
     alloc: Global,
     jobs: &[Job],
@@ -54,7 +54,7 @@ pub fn first_failure<S: Judges, C: Crew<S>>(
     Ok(None)
 }
 
-/// The walk over all jobs, behind the crew.
+/// Walks over all jobs, after the crew has run.
 fn walked<S: Judges, C: Crew<S>>(
     alloc: Global,
     jobs: &[Job],
@@ -84,7 +84,7 @@ fn walked<S: Judges, C: Crew<S>>(
     go_through(alloc, &list, &accepted, slots, &gate)
 }
 
-/// The first place whose known answer is no, or the end of so many: none behind it is looked at.
+/// The first place with a known refusal, or `count`: no place behind it is looked at.
 fn first_no(count: usize, known: &[Option<bool>]) -> usize
     ensures inside { result ≤ count }
     ensures refused { result < count → slice_get known.now result ≡ Some (Some false) }

@@ -1,4 +1,4 @@
-//! The jobs of a list, with what is known of them.
+//! A list's jobs, with their known answers.
 
 ghost use Rattle.std.specs.Prelude.{◌≡◌, ◌≤◌, All, length};
 ghost use Rattle.std.proofs.Props.{props};
@@ -14,28 +14,28 @@ use interp::{Job, Unverified, verify_with};
 use std::alloc::Global;
 use wire::Memory;
 
-/// The first jobs of a list, the answers that are known of them, and who judges signatures.
+/// The first jobs of a list, their known answers, and the judge of signatures.
 #[derive(Drop)]
 pub struct JobList<'a, S: Judges> {
     pub jobs: &'a [Job<'a>],
-    /// Behind so many jobs none is looked at.
+    /// How many jobs are looked at.
     pub count: usize,
     pub by: &'a S,
-    /// Verdicts that were got before.
+    /// Verdicts that were found earlier.
     pub early: &'a [Verdicts<'a>],
     pub known: &'a [Option<bool>],
-    /// Of each job whether the first of those verdicts has it at the same place; it may end before the list does.
+    /// For each job, whether the first of `early` has it at the same place; it may be shorter than the list.
     pub asked: &'a [bool],
     pub ghost inside: { count ≤ length jobs.now },
     pub ghost right: { AreKnown (verdict_at (S.known by.now) jobs.now) known.now } by { Prim.hlevel props },
-    // Each job that an early verdict fits has its answer, so none of them is run.
+    // Each job with a fitting early verdict has its answer, so it isn't run.
     pub ghost all: { AreAllKnown early.now jobs.now known.now } by { Prim.hlevel props },
     pub ghost inputs: { All HasInput jobs.now } by { Prim.hlevel props },
     pub ghost before: { All (IsEarly (S.known by.now)) early.now } by { Prim.hlevel props },
     pub ghost at_place: { AreAskedAt early.now jobs.now asked.now } by { Prim.hlevel props },
 }
 
-/// What a job weighs besides its scripts.
+/// A job's weight besides its scripts.
 const OF_EACH_JOB: usize = 128;
 
 impl<'a, S: Judges> Places for JobList<'a, S> {

@@ -25,7 +25,7 @@ use Rattle.chain.specs.Valid.{fault_over, fault, connects, branch_connects, firs
 use Rattle.chain.specs.Replay.{replay}
 use Rattle.chain.specs.Regtest.{medians_of, setting_on, ledger, regtest}
 use Rattle.chain.specs.laws.Medians.{length-medians}
-use Rattle.reference.specs.inside.Replayed.{medians_in, trial_after, trial_on, is_valid, is_first}
+use Rattle.reference.specs.inside.Replay.{medians_in, trial_after, trial_on, is_valid, is_first}
 
 -- ---- medians
 

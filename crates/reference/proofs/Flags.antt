@@ -8,7 +8,7 @@ use Rattle.std.specs.List.{filter, list_any}
 use Rattle.tree.specs.Branches.{has, down_from}
 use Rattle.tree.specs.State.{union_where}
 use Rattle.tree.specs.laws.Sets.{filter_agree, has-filter}
-use Rattle.reference.specs.inside.Replayed.{is_flagged, places_of, any_below}
+use Rattle.reference.specs.inside.Replay.{is_flagged, places_of, any_below}
 
 -- a flag set
 pub flag_set : (flags : List Bool) (p x : ℕ) → p < length flags → is_flagged (set flags p true) x ≡ (is_flagged flags x || eqb p x)

@@ -10,7 +10,7 @@ use Rattle.tree.specs.laws.Branches.{branch_head, branch-genesis}
 use Rattle.tree.specs.laws.Parents.{parent-below, branch-parent}
 use Rattle.tree.specs.laws.Added.{id_there, id_here}
 use Rattle.reference.specs.declared.kept_block.KeptBlock.{KeptBlock}
-use Rattle.reference.specs.inside.Replayed.{kept_of, blocks_of, IsKeptBlock, AreKeptBlocks, block_in, blocks_in, first_kept}
+use Rattle.reference.specs.inside.Replay.{kept_of, blocks_of, IsKeptBlock, AreKeptBlocks, block_in, blocks_in, first_kept}
 
 pub length-blocks : (hs : List KeptBlock) → 0 < length hs → suc (length (blocks_of hs)) ≡ length hs
 unfolding blocks_of

@@ -15,12 +15,12 @@ use Rattle.tree.specs.laws.Sets.{clash, all_agree}
 use Rattle.tree.specs.laws.Marks.{usable_from}
 use Rattle.tree.specs.laws.Branches.{on-bounds}
 use Rattle.reference.specs.declared.judgement.Judgement.{Judgement}
-use Rattle.reference.specs.declared.replayed.Replayed.{Replayed}
+use Rattle.reference.specs.declared.state.Replayed.{Replayed}
 use Rattle.chain.specs.Rules.{Rules}
 use Rattle.chain.specs.Valid.{branch_connects, first_to_fail}
 use Rattle.chain.specs.Settle.{can_be_active, active, is_candidate, on_candidate}
 use Rattle.chain.specs.Regtest.{regtest}
-use Rattle.reference.specs.inside.Replayed.{IsRight, AreAlone, AreJudgements, blocks_of, blocks_in, state_of_replayed, is_flagged, places_of, judgement_at, judgement_in, no_judgement, above, is_near, is_valid, is_first, any_below}
+use Rattle.reference.specs.inside.Replay.{IsRight, AreAlone, AreJudgements, blocks_of, blocks_in, state_of_replayed, is_flagged, places_of, judgement_at, judgement_in, no_judgement, above, is_near, is_valid, is_first, any_below}
 use Rattle.chain.specs.laws.Kept.{alone-at}
 use Rattle.reference.proofs.KeptBlocks.{length-blocks, branch_kept, branch_later, branch_length, block-held, blocks-held}
 use Rattle.reference.proofs.Flags.{has-places, any-down, any-agree}
@@ -177,6 +177,6 @@ module _ (params : Params) (triples : Triples) (s : State Block) (judged : List 
   first-never d = first-is 0 d (omega arith) ∙ Rattle.reference.proofs.BranchReplay.first-zero params triples s.blocks
 
   -- the trial of a block
-  pub trial_found : (p : ℕ) (d : Judgement) → p ≤ length s.blocks → (get_or judged p d).trial ≡ Rattle.reference.specs.inside.Replayed.trial_on (regtest params triples) (blocks_at names s.blocks (branch s.blocks p))
+  pub trial_found : (p : ℕ) (d : Judgement) → p ≤ length s.blocks → (get_or judged p d).trial ≡ Rattle.reference.specs.inside.Replay.trial_on (regtest params triples) (blocks_at names s.blocks (branch s.blocks p))
   unfolding judgement_at
   trial_found p d h = ap (λ (j : Judgement). j.trial) (judged-is p d h)

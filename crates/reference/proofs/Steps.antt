@@ -11,7 +11,7 @@ use Rattle.tree.specs.Names.{names}
 use Rattle.tree.specs.laws.Added.{place-bound}
 use Rattle.tree.specs.laws.Marks.{bad-flagged}
 use Rattle.reference.specs.declared.kept_block.KeptBlock.{KeptBlock}
-use Rattle.reference.specs.declared.replayed.Replayed.{Replayed}
+use Rattle.reference.specs.declared.state.Replayed.{Replayed}
 use Rattle.reference.specs.declared.branch_replay.Trial.{Trial}
 use Rattle.reference.specs.declared.branch_replay.Trial.TheVariants.{Valid, Fails, Below}
 use Rattle.chain.specs.declared.reply.SubmitReply.TheVariants.{Accepted, Inconclusive}
@@ -20,7 +20,7 @@ use Rattle.chain.specs.Valid.{fault, first_to_fail}
 use Rattle.chain.specs.Settle.{active, on_candidate, becomes_bad, becomes_seen, settle}
 use Rattle.chain.specs.Submission.{submit_says, reply_by_reason, answer_added, outcome_of_added}
 use Rattle.chain.specs.Regtest.{regtest}
-use Rattle.reference.specs.inside.Replayed.{IsRight, blocks_of, state_of_replayed, trial_on, is_first, reply_by_trial}
+use Rattle.reference.specs.inside.Replay.{IsRight, blocks_of, state_of_replayed, trial_on, is_first, reply_by_trial}
 use Rattle.chain.specs.laws.Settled.{active-settle, settle-blocks}
 use Rattle.reference.proofs.KeptBlocks.{length-blocks}
 use Rattle.reference.proofs.BranchReplay.{trial-first, trial-reason}

@@ -1,2 +1,2 @@
 -- What clauses of private functions alone speak of.
-pub mod Replayed
+pub mod Replay

@@ -12,7 +12,7 @@ ghost use Rattle.tree.specs.MedianTime.{time_of};
 ghost use Rattle.chain.specs.Regtest.{ledger, medians_of};
 ghost use Rattle.chain.specs.Replay.{replay};
 ghost use Rattle.reference.specs.declared.branch_replay.Trial.TheVariants.{Valid};
-ghost use Rattle.reference.specs.inside.Replayed.{AreAlone, blocks_in, chain_rules, is_valid, medians_in, trial_after, trial_on};
+ghost use Rattle.reference.specs.inside.Replay.{AreAlone, blocks_in, chain_rules, is_valid, medians_in, trial_after, trial_on};
 
 use crate::kept_block::KeptBlock;
 use block::Block;

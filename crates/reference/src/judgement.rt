@@ -8,11 +8,11 @@ ghost use Rattle.rules.specs.declared.params.Params.{Params};
 ghost use Rattle.tree.specs.State.{State, rank_in, has_no_mark};
 ghost use Rattle.chain.specs.Regtest.{regtest};
 ghost use Rattle.chain.specs.Settle.{active};
-ghost use Rattle.reference.specs.inside.Replayed.{IsRight, AreJudged, AreJudgements, above, chain_rules, is_flagged, is_valid, judgement_at, judgement_in, state_of_replayed};
+ghost use Rattle.reference.specs.inside.Replay.{IsRight, AreJudged, AreJudgements, above, chain_rules, is_flagged, is_valid, judgement_at, judgement_in, state_of_replayed};
 
 use crate::branch_replay::{Chain, Trial};
 use crate::kept_block::branch_of;
-use crate::replayed::Replayed;
+use crate::state::Replayed;
 use std::alloc::Global;
 use wire::Memory;
 

@@ -3,7 +3,7 @@
 ghost use Rattle.std.specs.Prelude.{◌≡◌, ◌<◌, length, IfOk};
 ghost use Rattle.tree.specs.Branches.{branch, place_of};
 ghost use Rattle.tree.specs.Names.{names};
-ghost use Rattle.reference.specs.inside.Replayed.{AreKeptBlocks, blocks_of};
+ghost use Rattle.reference.specs.inside.Replay.{AreKeptBlocks, blocks_of};
 
 use crate::branch_replay::Trial;
 use block::Block;

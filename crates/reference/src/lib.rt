@@ -4,9 +4,9 @@
 mod branch_replay;
 mod judgement;
 mod kept_block;
-mod replayed;
 mod replies;
-mod settling;
-mod stepping;
+mod settlement;
+mod state;
+mod step;
 
 pub use replies::{Unwatched, Watch, slow, slow_watched};

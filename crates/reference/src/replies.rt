@@ -7,8 +7,8 @@ ghost use Rattle.chain.specs.Regtest.{regtest};
 ghost use Rattle.chain.specs.Commands.{replies_of};
 
 use crate::branch_replay::Chain;
-use crate::replayed::Replayed;
-use crate::stepping::step;
+use crate::state::Replayed;
+use crate::step::step;
 use chain::{Command, Reply};
 use curve::Table;
 use rules::Params;

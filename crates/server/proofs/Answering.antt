@@ -8,7 +8,7 @@ use Rattle.json.specs.Json.{no_members}
 use Rattle.serving.specs.Answers.{text}
 use Rattle.serving.specs.declared.refusal.Refusal.TheVariants as refusal
 use Rattle.serving.specs.declared.request_id.RequestId.{RequestId}
-use Rattle.server.specs.inside.Answering.{answer_at, error_of}
+use Rattle.server.specs.inside.Answers.{answer_at, error_of}
 
 -- a reply's text that was written into an empty one
 pub reply_told : {W E : Type 0} (contents : W → List ℕ) (i : RequestId) (at : ℕ) (o : Option (List ℕ)) (old new : W) (word : List ℕ) (line : Result (Vec ℕ Global) E)

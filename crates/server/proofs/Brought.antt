@@ -24,7 +24,7 @@ use Rattle.view.specs.Origin.{Origin, known_in, machine}
 use Rattle.node.specs.Pass.{IsLonger, IsRead, Pass}
 use Rattle.node.specs.Told.{best_in}
 use Rattle.serving.specs.declared.request_id.RequestId.{RequestId}
-use Rattle.server.specs.inside.Answering.{IsDeep, IsReadLine, TellsHeader, absent_answer, confirmations_of, header_answer}
+use Rattle.server.specs.inside.Answers.{IsDeep, IsReadLine, TellsHeader, absent_answer, confirmations_of, header_answer}
 use Rattle.server.specs.inside.Brought.{AreBrought, IsBrought, IsTreeAfter, may_be_kept}
 
 -- an entry more

@@ -8,7 +8,7 @@ use Rattle.durable.specs.Keeping.{KeepsBetween}
 use Rattle.durable.specs.Log.{history, IsSound, KeepsThrough}
 use Rattle.durable.proofs.Keeping.{joined, keeps_longer}
 use Rattle.durable.proofs.Sound.{at_start}
-use Rattle.server.specs.inside.Telling.{GoesOn, KeepsToTheEnd}
+use Rattle.server.specs.inside.Delivery.{GoesOn, KeepsToTheEnd}
 
 further : (first mid last : List (List ℕ)) → IsPrefix first mid → IsPrefix mid last → IsPrefix first last
 further first mid last p q = (p.0 ++ q.0, sym (append_assoc first p.0 q.0) ∙ ap (λ (l : List (List ℕ)). l ++ q.0) p.1 ∙ q.1)

@@ -11,9 +11,9 @@ use Rattle.serving.specs.declared.answer.SpentCoin.{SpentCoin}
 use Rattle.serving.specs.declared.answer.Step.{Step}
 use Rattle.serving.specs.declared.refusal.Refusal.TheVariants as refusal
 use Rattle.serving.specs.declared.request_id.RequestId.{RequestId}
-use Rattle.server.specs.inside.Listing.{AreSteps, items, IsTextOf, text_json}
-use Rattle.server.specs.inside.Answering.{IsReadLine, answer_at, error_of}
-use Rattle.server.specs.declared.listing.EntryText.{EntryText}
+use Rattle.server.specs.inside.Lists.{AreSteps, items, IsTextOf, text_json}
+use Rattle.server.specs.inside.Answers.{IsReadLine, answer_at, error_of}
+use Rattle.server.specs.declared.lists.EntryText.{EntryText}
 
 one_more : (n : ℕ) (es : List Entry) (js : List Json) (e : Entry) (j : Json)
     → AreSteps n es js → IsTextOf (n + length es) e j → AreSteps n (es ++ e ∷ []) (js ++ j ∷ [])

@@ -7,7 +7,7 @@ use Rattle.curve.specs.Triple.{Triple}
 use Rattle.curve.proofs.Tables.{is_skipped-spells}
 use Rattle.node.specs.Pass.{Pass}
 use Rattle.node.specs.Runs.{IsLearnAllAnswer}
-use Rattle.server.specs.inside.Learning.{AreLearnt, AreSpelled, IsSpelled}
+use Rattle.server.specs.inside.Verdicts.{AreLearnt, AreSpelled, IsSpelled}
 
 -- what a line that can be read spells
 pub read_spells : (line : List ℕ) (found : Option Triple) → MatchOption found (IsTrue (is_skipped (words line))) (Spells (words line)) → IsSpelled line found

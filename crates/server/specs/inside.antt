@@ -1,5 +1,5 @@
-pub mod Answering
+pub mod Answers
 pub mod Brought
-pub mod Learning
-pub mod Listing
-pub mod Telling
+pub mod Verdicts
+pub mod Lists
+pub mod Delivery

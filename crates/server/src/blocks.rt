@@ -50,7 +50,7 @@ impl Lays<()> for Nobody {
 }
 
 impl<J: Naming> Blocks<J> {
-    ghost use Rattle.server.specs.inside.Answering.{IsLookFault, IsLookedAt};
+    ghost use Rattle.server.specs.inside.Answers.{IsLookFault, IsLookedAt};
 
     /// Genesis alone.
     pub fn new(alloc: Global) -> Result<Blocks<J>, AllocError> {

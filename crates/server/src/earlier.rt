@@ -1,10 +1,11 @@
 //! What a node plays before its first request: an earlier run, and a blk file.
 
-use crate::learning::{deny_wants, learn_lines};
+use crate::by_need::{deny_wants, learn_lines};
 use crate::node_faults::unanswered;
 use crate::waste::taken_by;
 use crate::words::SEATS;
 use block::SliceSource;
+use console::ahead::{CommandsAhead, NextBlock, RecordsAhead};
 use console::fault::Fault;
 use console::progress::Progress;
 use console::replay::BLK_MOMENT;
@@ -31,6 +32,8 @@ pub struct Earlier<'t> {
     pub is_kept: bool,
     /// Then the blocks of this file are submitted.
     pub blk: Option<Vec<u8>>,
+    /// At most so many threads decode and hash blocks ahead.
+    pub workers: usize,
 }
 
 /// Plays it at a seat. The first reply that isn't the recorded one is a fault, and so is a blk file's end that is none. A
@@ -50,16 +53,17 @@ where
     learn_lines(rt, node, earlier.valid.as_bytes(), true, seat).map_err(unanswered)?;
     learn_lines(rt, node, earlier.invalid.as_slice(), false, seat).map_err(unanswered)?;
     clients.put_in(0, seat.note().len(), SEATS[0])?;
+    let mut ahead = CommandsAhead::new(rt.alloc(), earlier.commands.as_slice(), earlier.workers);
     for (command, step) in earlier.commands.iter().zip(earlier.steps.iter()) {
+        if let Some(submission) = ahead.next(rt) {
+            seat.hand_in(submission);
+        }
         let before = seat.note().len();
         let reply = match asked(rt, node, seat, command) {
-            Ok(reply) => reply,
-            Err(node::Fault::Unknown) if earlier.is_kept => {
-                return Err(Fault::NoStep(step.number));
-            }
-            Err(node::Fault::Unknown) => replied(rt, node, seat, command)?,
-            Err(fault) => return Err(unanswered(fault)),
-        };
+            Err(node::Fault::Unknown) if earlier.is_kept => Err(Fault::NoStep(step.number)),
+            Err(node::Fault::Unknown) => replied(rt, node, seat, command),
+            answer => answer.map_err(unanswered),
+        }?;
         let denied = seat.note().len().saturating_sub(before.saturating_add(1));
         clients.put_in(before, denied, SEATS[0])?;
         progress.count(matches!(command, Command::Submit(..)));
@@ -74,7 +78,11 @@ where
         }
     }
     match &earlier.blk {
-        Some(file) => submit_file(rt, node, seat, file.as_slice(), clients),
+        Some(file) => {
+            let records = Records::new(rt.alloc(), SliceSource::new(file.as_slice()));
+            let mut records = RecordsAhead::new(rt.alloc(), records, earlier.workers);
+            submit_file(rt, node, seat, &mut records, clients)
+        }
         None => Ok(()),
     }
 }
@@ -155,18 +163,20 @@ fn submit_file<J: Naming, R>(
     rt: &R,
     node: &Node<'_, J>,
     seat: &mut Seat<'_, J>,
-    file: &[u8],
+    records: &mut RecordsAhead<'_>,
     clients: &mut Clients<'_>,
 ) -> Result<(), Fault<'static>>
 where
     R: AllocGlobal + Threads + Wait + Sync,
 {
-    let mut records = Records::new(rt.alloc(), SliceSource::new(file));
     for _ in 0..u64::MAX {
-        let Some(record) = records.next()? else {
+        let Some(NextBlock { bytes, submission }) = records.next(rt)? else {
             return Ok(());
         };
-        let told = seat.submit(rt, node, record.as_slice(), BLK_MOMENT);
+        if let Some(submission) = submission {
+            seat.hand_in(submission);
+        }
+        let told = seat.submit_bytes(rt, node, bytes, BLK_MOMENT);
         let reply = told.map_err(unanswered)?.value;
         if reply != SubmitReply::DecodeFailed {
             clients.earlier.push(BLK)?;

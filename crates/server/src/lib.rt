@@ -1,26 +1,26 @@
 //! A node that answers requests, a JSON object a line.
 #![tactic(auto)]
 
-mod asking;
+mod answers;
 mod blocks;
 mod board;
+mod by_need;
+mod delivery;
 mod earlier;
 mod growth;
-mod lacking;
-mod learning;
-mod listing;
-mod looking;
+mod input_lines;
+mod lists;
+mod log_gap;
+mod lookups;
 pub mod node_faults;
 mod outbox;
-mod reading;
-mod saved;
-mod saving;
+mod save_request;
+mod saves;
 mod service;
 mod session;
 pub mod spelled;
-mod submitting;
+mod submissions;
 mod tally;
-mod telling;
 mod turn;
 mod undo_told;
 mod waste;

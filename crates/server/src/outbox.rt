@@ -2,7 +2,7 @@
 
 ghost use Rattle.std.specs.Prelude.{◌≡◌, length, IfOk, IfSome};
 
-use crate::lacking::Lacking;
+use crate::log_gap::Lacking;
 use crate::words::Facts;
 use node::{Entry, Fault, Naming, Seat};
 use std::alloc::Global;

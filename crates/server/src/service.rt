@@ -1,12 +1,12 @@
 //! The threads of a served node: one for each seat, one that reads, and this one, which writes.
 
-use crate::asking::{Desk, answer_turns};
+use crate::answers::{Desk, answer_turns};
 use crate::board::Board;
+use crate::delivery::{Lines, tell_as_they_come, tell_unsaved};
 use crate::growth::Growth;
+use crate::input_lines::{Doors, Requests, Stop, read_requests, unread};
 use crate::outbox::Outbox;
-use crate::reading::{Doors, Requests, Stop, read_requests, unread};
 use crate::session::Ended;
-use crate::telling::{Lines, tell_as_they_come, tell_unsaved};
 use crate::words::Facts;
 use console::datadir::HostFault;
 use console::fault::Fault;

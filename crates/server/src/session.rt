@@ -3,12 +3,12 @@
 ghost use Rattle.std.specs.Prelude.{◌≡◌};
 ghost use Rattle.durable.specs.Log.{opened};
 
+use crate::delivery::tell_all;
 use crate::earlier::{Earlier, play_earlier, wasted};
+use crate::input_lines::{READ_AHEAD, Stop};
 use crate::node_faults::unopened;
-use crate::reading::{READ_AHEAD, Stop};
-use crate::saving::{answer_saved, save_served};
+use crate::saves::{answer_saved, save_served};
 use crate::service::{serve_requests, taken};
-use crate::telling::tell_all;
 use crate::words::{Facts, SEATS};
 use console::datadir::{
     Datadir, FileHost, HostFault, LOG, Setting, Unpacked, Verdict, lock_for_node, open_datadir,
@@ -20,7 +20,7 @@ use console::options::{HEIGHTS, Saved, ServeOptions};
 use console::progress::Progress;
 use console::replay::{Inputs, commands, read_inputs};
 use console::report::Clients;
-use console::saving::{check_folder, read_invalid};
+use console::saves::{check_folder, read_invalid};
 use curve::Table;
 use durable::{Host, KeptLog, Lost, whole_lines};
 use journal::{read_heights, read_journal, read_records};
@@ -226,6 +226,7 @@ where
         invalid,
         is_kept: options.datadir.is_some(),
         blk,
+        workers: options.workers,
     })
 }
 

@@ -4,7 +4,7 @@ ghost use Rattle.std.specs.Prelude.{◌≡◌, IfOk};
 ghost use Rattle.std.specs.String.{string_bytes};
 ghost use Rattle.journal.specs.Line.{text_of_answer};
 ghost use Rattle.serving.specs.Answers.{output_members};
-ghost use Rattle.server.specs.Spelled.{unspent_members};
+ghost use Rattle.server.specs.UnspentOutput.{unspent_members};
 
 use node::{Reply, UnspentOutput};
 use serving::Output;

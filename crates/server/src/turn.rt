@@ -3,7 +3,7 @@
 ghost use Rattle.std.specs.Prelude.{◌≡◌, [], IfOk, IfErr};
 ghost use Rattle.serving.specs.Answers.{answer_members};
 ghost use Rattle.serving.specs.declared.refusal.Refusal.TheVariants as refusals;
-ghost use Rattle.server.specs.inside.Answering.{IsError, IsReadLine, answer_at, error_of};
+ghost use Rattle.server.specs.inside.Answers.{IsError, IsReadLine, answer_at, error_of};
 
 use serving::{Answer, Call, Refusal, RequestId, Stamped, answer_line, refusal_line};
 use std::alloc::{AllocError, Global};

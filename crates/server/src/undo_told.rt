@@ -4,10 +4,10 @@ ghost use Rattle.std.specs.Prelude.{◌≡◌, ◌++◌, map, IfOk, OnOk};
 ghost use Rattle.std.specs.List.{flat_map};
 ghost use Rattle.json.specs.Json.{object};
 ghost use Rattle.serving.specs.Answers.{spent_members};
-ghost use Rattle.server.specs.inside.Listing.{spent_json};
-ghost use Rattle.server.specs.inside.Answering.{IsReadLine, IsSpentTold, TellsRead, spent_answer};
+ghost use Rattle.server.specs.inside.Lists.{spent_json};
+ghost use Rattle.server.specs.inside.Answers.{IsReadLine, IsSpentTold, TellsRead, spent_answer};
 
-use crate::asking::refused;
+use crate::answers::refused;
 use crate::turn::Blank;
 use coins::Coin;
 use hash::Id;

@@ -8,7 +8,7 @@ use Rattle.logbook.specs.Pages.{Cell, cell, keeps, no_nib, step, Moves, Goes}
 use Rattle.chain.specs.declared.entry.Entry.{Entry}
 use Rattle.view.proofs.Beginnings.{prefix_whole}
 use Rattle.view.specs.Beginning.{Counts}
-use Rattle.view.specs.inside.Adding.{Adds}
+use Rattle.view.specs.inside.NextEntry.{Adds}
 
 abbrev pub shown : List Entry → List Entry
 shown log = []

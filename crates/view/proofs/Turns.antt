@@ -4,7 +4,7 @@ use Rattle.crossbeam_utils.specs.Register.{Admits, TurnsAt, Turns}
 use Rattle.view.specs.Origin.{Origin}
 use Rattle.view.specs.ViewState.{ViewState, IsExact, after_publications}
 use Rattle.view.specs.declared.publication.Publication.{Publication}
-use Rattle.view.specs.Following.{AllFollow}
+use Rattle.view.specs.NextPublications.{AllFollow}
 use Rattle.view.specs.laws.Exact.{all_exact, same_origin}
 use Rattle.view.specs.Rule.{IsExactOf}
 

@@ -1,5 +1,5 @@
 pub mod Beginning
-pub mod Following
+pub mod NextPublications
 pub mod Origin
 pub mod Rule
 pub mod ViewState

@@ -4,7 +4,7 @@ ghost use Rattle.std.specs.Prelude.{List, [], ◌<◌};
 ghost use mathlib.Core.List.{IsPrefix};
 ghost use Rattle.curve.specs.Known.{Under};
 ghost use Rattle.tree.specs.Limits.{max_blocks};
-ghost use Rattle.view.specs.Following.{AllFollow};
+ghost use Rattle.view.specs.NextPublications.{AllFollow};
 ghost use Rattle.view.specs.Origin.{Origin, known_in};
 ghost use Rattle.view.specs.ViewState.{ViewState, IsExact, IsInfo, after_publications, opening_view};
 ghost use Rattle.view.specs.declared.chain_info.ChainInfo.{ChainInfo};
@@ -12,7 +12,7 @@ ghost use Rattle.view.specs.declared.publication.Publication.{Publication};
 
 use crate::naming::Naming;
 use crate::note::Note;
-use crate::publishing::{ViewReader, ViewWriter};
+use crate::publishers::{ViewReader, ViewWriter};
 
 /// A view is exact at first: there are no coins then.
 pub fn the_opening_view_is_exact()

@@ -9,8 +9,8 @@ pub mod laws;
 mod naming;
 mod note;
 mod publication;
-mod publishing;
-mod reading;
+mod publishers;
+mod reads;
 mod rule;
 mod shared_entry;
 
@@ -21,7 +21,7 @@ pub use hub::Hub;
 pub use naming::Naming;
 pub use note::{EntryCount, HistoryRule, Note};
 pub use publication::Publication;
-pub use publishing::{
+pub use publishers::{
     ViewReader, ViewReading, ViewWriter, another_reader, enter, open_writer, publish,
 };
 pub use rule::ViewRule;

@@ -3,7 +3,7 @@
 ghost use Rattle.std.specs.Prelude.{◌≡◌, ◌⊎◌, ◌<◌, ◌^◌, ◌++◌, ◌∷◌, [], length, MatchBool};
 ghost use mathlib.Core.List.{IsPrefix};
 ghost use Rattle.view.specs.Beginning.{count_of};
-ghost use Rattle.view.specs.inside.Adding.{IsShorter};
+ghost use Rattle.view.specs.inside.NextEntry.{IsShorter};
 
 use chain::Entry;
 use logbook::{Gain, Offer, Plain, Play, Rule, Seen, Start, Word};
@@ -43,7 +43,7 @@ impl Gain<Entry, u64> for Nothing {
 pub(crate) struct Adding;
 
 impl Play<Entry, u64> for Adding {
-    ghost use Rattle.view.specs.inside.Adding.{Adds};
+    ghost use Rattle.view.specs.inside.NextEntry.{Adds};
 
     ghost then = { Adds };
 }

@@ -6,7 +6,7 @@ use Rattle.block.specs.declared.block.Block.{Block}
 use Rattle.coins.specs.Changes.{AreChanges, after_changes}
 use Rattle.coins.specs.Coins.{Coins}
 use Rattle.connect.specs.Setting.{Setting}
-use Rattle.connect.specs.Connecting.{IsConnected}
+use Rattle.connect.specs.ConnectedBlock.{IsConnected}
 use Rattle.tree.specs.Branches.{Blocks, on, height, parent_at, block_at}
 use Rattle.tree.specs.Names.{names}
 use Rattle.tree.specs.laws.Above.{above, IsShared}
@@ -22,7 +22,7 @@ use Rattle.activate.specs.CoreState.{coins_after}
 use Rattle.chain.specs.Settled.{AllKept}
 use Rattle.activate.specs.declared.path.ActiveBranch.{ActiveBranch}
 use Rattle.activate.specs.Lookups.{undo_at}
-use Rattle.activate.specs.inside.Keeping.{IsBranch}
+use Rattle.activate.specs.inside.Kept.{IsBranch}
 use Rattle.activate.specs.Wants.{AreWantedAt}
 use Rattle.curve.specs.Known.{Known}
 use Rattle.curve.specs.Triple.{Triple}

@@ -13,12 +13,12 @@ use Rattle.chain.specs.declared.command.Command.{Command}
 use Rattle.chain.specs.declared.command.Command.TheVariants as command
 use Rattle.activate.specs.declared.path.ActiveBranch.{ActiveBranch}
 use Rattle.activate.specs.declared.path.Attempt.{Attempt}
-use Rattle.activate.specs.declared.prepared.Prepared.{Prepared}
-use Rattle.activate.specs.declared.prepared.Settled.{Settled}
-use Rattle.activate.specs.declared.prepared.Edit.{Edit}
-use Rattle.activate.specs.declared.prepared.Edit.TheVariants.{Leave, Keep, Call, Remark}
-use Rattle.activate.specs.declared.prepared.Completion.{Completion}
-use Rattle.activate.specs.declared.prepared.Completion.TheVariants.{Nothing, Flag, Activate}
+use Rattle.activate.specs.declared.plan.Prepared.{Prepared}
+use Rattle.activate.specs.declared.plan.Settled.{Settled}
+use Rattle.activate.specs.declared.plan.Edit.{Edit}
+use Rattle.activate.specs.declared.plan.Edit.TheVariants.{Leave, Keep, Call, Remark}
+use Rattle.activate.specs.declared.plan.Completion.{Completion}
+use Rattle.activate.specs.declared.plan.Completion.TheVariants.{Nothing, Flag, Activate}
 use Rattle.chain.specs.declared.reply.Reply.{Reply}
 use Rattle.chain.specs.declared.reply.SubmitReply.{SubmitReply}
 use Rattle.chain.specs.declared.reply.SubmitReply.TheVariants.{Inconclusive, Rejected}

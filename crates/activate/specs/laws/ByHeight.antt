@@ -6,7 +6,7 @@ use Rattle.block.specs.declared.block.Block.{Block}
 use Rattle.coins.specs.declared.coin.Coin.{Coin}
 use Rattle.coins.specs.Coins.{Coins}
 use Rattle.connect.specs.Setting.{Setting}
-use Rattle.connect.specs.Connecting.{IsConnected}
+use Rattle.connect.specs.ConnectedBlock.{IsConnected}
 use Rattle.tree.specs.Branches.{Blocks, branch, on, height, parent_at, block_at, blocks_at}
 use Rattle.tree.specs.Names.{names}
 use Rattle.tree.specs.laws.Branches.{branch_head, branch-genesis, on-bounds, on-genesis, height-genesis}
@@ -14,7 +14,7 @@ use Rattle.tree.specs.laws.Parents.{branch-parent, height-parent, climb}
 use Rattle.tree.specs.laws.Walks.{has_at, on_by_height}
 use Rattle.activate.specs.CoreState.{coins_after}
 use Rattle.activate.specs.Lookups.{undo_at}
-use Rattle.activate.specs.inside.Keeping.{highest_undo}
+use Rattle.activate.specs.inside.Kept.{highest_undo}
 use Rattle.activate.specs.inside.Paths.{AreConnected}
 use Rattle.activate.specs.inside.Disconnection.{place_at, IsConnectedBranch, IsUndoAbove}
 

@@ -8,7 +8,7 @@ use Rattle.coins.specs.Coins.{Coins}
 use Rattle.rules.specs.declared.params.Params.{Params}
 use Rattle.connect.specs.Setting.{Setting}
 use Rattle.connect.specs.Turns.{effect, undo_of}
-use Rattle.connect.specs.Connecting.{IsConnected}
+use Rattle.connect.specs.ConnectedBlock.{IsConnected}
 use Rattle.tree.specs.Branches.{Blocks, branch, height, parent_at, block_at, blocks_at}
 use Rattle.tree.specs.Names.{names}
 use Rattle.chain.specs.Rules.{Rules}

@@ -17,7 +17,7 @@ use Rattle.chain.specs.Replay.{replay}
 use Rattle.chain.specs.Regtest.{medians_of, ledger}
 use Rattle.activate.specs.CoreState.{branch_blocks}
 use Rattle.activate.specs.Lookups.{undo_at}
-use Rattle.activate.specs.inside.Keeping.{highest_undo, IsBranch}
+use Rattle.activate.specs.inside.Kept.{highest_undo, IsBranch}
 
 -- maps that agree on a list of places
 pub map_agree : {A : Type 0} (f g : ℕ → A) (l : List ℕ) → ((x : ℕ) → has l x ≡ true → f x ≡ g x) → map f l ≡ map g l

@@ -20,7 +20,7 @@ use Rattle.tree.specs.laws.Walks.{on_by_height, shared_here, shared_below}
 use Rattle.activate.specs.CoreState.{coins_after}
 use Rattle.activate.specs.Lookups.{ancestor_at, depth_at, spent_at, undo_at}
 use Rattle.activate.specs.inside.Disconnection.{place_at}
-use Rattle.activate.specs.inside.Keeping.{highest_undo}
+use Rattle.activate.specs.inside.Kept.{highest_undo}
 use Rattle.activate.specs.laws.ByHeight.{place-genesis, place-high, place-kept, place-of, place-on, places-long, undo-above}
 use Rattle.activate.specs.laws.Turning.{highest-long}
 

@@ -15,7 +15,7 @@ use Rattle.activate.specs.declared.path.BranchPath.{BranchPath}
 use Rattle.chain.specs.Regtest.{medians_of}
 use Rattle.activate.specs.CoreState.{branch_blocks, most_undo}
 use Rattle.activate.specs.Lookups.{undo_at}
-use Rattle.activate.specs.inside.Keeping.{highest_undo, IsBranch}
+use Rattle.activate.specs.inside.Kept.{highest_undo, IsBranch}
 use Rattle.activate.specs.inside.ActiveBranch.{median_at, last_of}
 use Rattle.activate.specs.inside.Paths.{IsPath}
 

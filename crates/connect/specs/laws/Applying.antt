@@ -18,8 +18,8 @@ use Rattle.undo.specs.Effect.{outpoint_at, spends, IsApplicable}
 use Rattle.connect.specs.Setting.{Setting}
 use Rattle.connect.specs.Turns.{Turn, turn, turns, effect, undo_of, spent_in, left_by, full_count}
 use Rattle.connect.specs.Faults.{has_coin, overwrites, fees, reward_of, turn_rules, connect_rules}
-use Rattle.connect.specs.Connecting.{IsConnected}
-use Rattle.connect.specs.inside.Applied.{IsBlockApplied}
+use Rattle.connect.specs.ConnectedBlock.{IsConnected}
+use Rattle.connect.specs.inside.AppliedTransactions.{IsBlockApplied}
 use Rattle.connect.specs.inside.Turns.{IsLawful}
 use Rattle.connect.specs.laws.Alone.{both_clear, lawful_block}
 use Rattle.connect.specs.laws.Broken.{cleared, tail_clear}

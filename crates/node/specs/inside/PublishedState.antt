@@ -15,13 +15,13 @@ use Rattle.activate.specs.CoreState as core_state
 use Rattle.view.specs.Beginning.{Beginning}
 use Rattle.view.specs.Origin.{Origin, known_in}
 use Rattle.view.specs.ViewState.{ViewState, IsExact, IsLegal, coins_after, state_after}
-use Rattle.view.specs.Following.{AllFollow}
+use Rattle.view.specs.NextPublications.{AllFollow}
 use Rattle.view.specs.declared.publication.Publication.{Publication}
 use Rattle.node.specs.declared.published_history.knowledge.Knowledge.{Knowledge}
 use Rattle.node.specs.declared.published_history.pending.Pending.{Pending}
 use Rattle.node.specs.declared.published_history.pending.Pending.TheVariants as pending
 use Rattle.node.specs.Told.{reply_to}
-use Rattle.node.specs.inside.Keeping.{KeepsHistory, IsReplyTo, IsUndecodable, is_step}
+use Rattle.node.specs.inside.Kept.{KeepsHistory, IsReplyTo, IsUndecodable, is_step}
 use Rattle.node.specs.inside.Knowledge.{IsKnowledge}
 
 -- what the history is of, its entries, and whether the last of them is owed to readers, who don't see it yet

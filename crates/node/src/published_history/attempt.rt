@@ -1,7 +1,7 @@
 //! The attempt to publish an entry that is owed.
 
 ghost use Rattle.std.specs.Prelude.{◌≡◌, ◌++◌, ◌∷◌, [], IfSome, MatchBool, None, drop};
-ghost use Rattle.view.specs.Following.{AllFollow};
+ghost use Rattle.view.specs.NextPublications.{AllFollow};
 ghost use Rattle.node.specs.inside.PublishedState.{AreDue, Shows, entry_with_reply, is_owed, owed_by};
 
 use crate::published_history::pending::Pending;

@@ -6,7 +6,7 @@ ghost use Rattle.chain.specs.Learnt.{IsNews};
 ghost use Rattle.chain.specs.Prepared.{command_of};
 ghost use Rattle.node.specs.inside.Knowledge.{known_behind, known_of};
 ghost use Rattle.node.specs.inside.PublishedState.{AreCoreSteps, IsCoreReply, IsLockedAt};
-ghost use Rattle.node.specs.inside.Refused.{IsWantOf};
+ghost use Rattle.node.specs.inside.Refusal.{IsWantOf};
 
 use crate::published_history::knowledge::Knowledge;
 use crate::published_history::refusal::Refusal;

@@ -27,7 +27,7 @@ impl From<Memory> for Refusal {
 }
 
 impl From<Undecided> for Refusal {
-    ghost use Rattle.node.specs.inside.Refused.{refusal_of};
+    ghost use Rattle.node.specs.inside.Refusal.{refusal_of};
 
     ghost from_gives = { λ stop refusal. refusal ≡ refusal_of stop };
 

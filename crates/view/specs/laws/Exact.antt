@@ -30,7 +30,7 @@ use Rattle.view.specs.declared.chain_info.ChainInfo.{ChainInfo}
 use Rattle.view.specs.declared.publication.Publication.{Publication}
 use Rattle.view.specs.Origin.{Origin, known_in, machine}
 use Rattle.view.specs.ViewState.{ViewState, IsExact, IsInfo, IsLegal, IsLegalWith, IsStateWith, state_after, coins_after, but_last, after_publication, after_publications, opening_view}
-use Rattle.view.specs.Following.{IsNext, IsOwed, AllOwed, AllFollow}
+use Rattle.view.specs.NextPublications.{IsNext, IsOwed, AllOwed, AllFollow}
 
 -- genesis leaves no coins
 opening_coins : (o : Origin) (valid : Triples) → coin_map.empty ≡ coins_after o valid []

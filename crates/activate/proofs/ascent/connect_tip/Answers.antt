@@ -5,7 +5,7 @@ use Rattle.coins.specs.declared.coin.Coin.{Coin}
 use Rattle.coins.specs.Coins.{Layer}
 use Rattle.txn.specs.First.{first_broken}
 use Rattle.rules.specs.Alone.{alone_rules}
-use Rattle.connect.specs.Connecting.{IsConnected}
+use Rattle.connect.specs.ConnectedBlock.{IsConnected}
 use Rattle.connect.specs.Turns.{effect}
 use Rattle.connect.specs.laws.Scripts.{fault-found}
 use Rattle.tree.specs.Branches.{Blocks, parent_at, height}

@@ -4,7 +4,7 @@ use Rattle.block.specs.declared.block.Block.{Block}
 use Rattle.coins.specs.declared.coin.Coin.{Coin}
 use Rattle.coins.specs.Coins.{Coins, Layer}
 use Rattle.connect.specs.Setting.{Setting}
-use Rattle.connect.specs.Connecting.{IsConnected}
+use Rattle.connect.specs.ConnectedBlock.{IsConnected}
 use Rattle.tree.specs.Branches.{Blocks, block_at}
 use Rattle.tree.specs.Names.{names}
 use Rattle.activate.specs.CoreState.{coins_after}

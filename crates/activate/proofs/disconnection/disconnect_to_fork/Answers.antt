@@ -5,7 +5,7 @@ use Rattle.coins.specs.Coins.{Coins}
 use Rattle.tree.specs.Branches.{Blocks, branch, on, height}
 use Rattle.tree.specs.laws.Branches.{on-bounds, on-itself}
 use Rattle.activate.specs.CoreState.{coins_after}
-use Rattle.activate.specs.inside.Keeping.{highest_undo}
+use Rattle.activate.specs.inside.Kept.{highest_undo}
 use Rattle.activate.specs.inside.Paths.{AreConnected, IsActiveBranch}
 use Rattle.activate.specs.declared.path.ActiveBranch.{ActiveBranch}
 use Rattle.activate.specs.inside.Disconnection.{place_at, CanDisconnect, IsConnectedBranch, IsUndoAbove}

@@ -2,7 +2,7 @@ use Rattle.std.proofs.Common.{rules, ◌≡◌, ◌+◌, ◌++◌, ◌∷◌, []
 use Rattle.std.proofs.lemmas.List.{append_assoc, length_push, length-take-le}
 use Rattle.interp.specs.Question.{question}
 use Rattle.connect.specs.Scripts.{Check, input_checks}
-use Rattle.connect.specs.inside.Listing.{checks_in}
+use Rattle.connect.specs.inside.ScriptLists.{checks_in}
 use Rattle.connect.proofs.Steps.{take_item}
 use Rattle.connect.proofs.Checks.{input_push, job_checks, job_count, job_inputs}
 use Rattle.connect.proofs.scripts.add.Goals as goal

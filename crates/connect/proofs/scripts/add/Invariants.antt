@@ -1,7 +1,7 @@
 use Rattle.std.proofs.Common.{◌≡◌, ◌+◌, ◌++◌, All, length, take}
 use Rattle.queue.specs.Jobs.{HasInput}
 use Rattle.connect.specs.Scripts.{input_checks}
-use Rattle.connect.specs.inside.Listing.{checks_in, IsEven}
+use Rattle.connect.specs.inside.ScriptLists.{checks_in, IsEven}
 use Rattle.connect.proofs.scripts.add.Given as goal
 
 abbrev pub invariant-loop-input : goal.invariant-loop-input

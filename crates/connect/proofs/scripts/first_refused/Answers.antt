@@ -12,7 +12,7 @@ use Rattle.queue.specs.Jobs.{verdict_at}
 use Rattle.queue.specs.Telling.{AreTheWants}
 use Rattle.queue.specs.laws.Failing.{first-under}
 use Rattle.connect.specs.Scripts.{Check, flags_of, IsFirstRefused, AreWantedAmong}
-use Rattle.connect.specs.inside.Listing.{checks_from, checks_in}
+use Rattle.connect.specs.inside.ScriptLists.{checks_from, checks_in}
 use Rattle.connect.proofs.Checks.{none_refused, first_refused_is, below_of, told_wanted}
 use Rattle.connect.proofs.Numbers.{numbered}
 use Rattle.connect.proofs.scripts.first_refused.Goals as goal

@@ -6,7 +6,7 @@ use Rattle.txn.specs.declared.tx.Tx.{Tx}
 use Rattle.coins.specs.declared.coin.Coin.{Coin}
 use Rattle.queue.specs.laws.Lending.{lent_of}
 use Rattle.connect.specs.Scripts.{Check, input_checks}
-use Rattle.connect.specs.inside.Listing.{checks_from, checks_in}
+use Rattle.connect.specs.inside.ScriptLists.{checks_from, checks_in}
 use Rattle.connect.proofs.Steps.{drop_item, drop_of_length-le, item_of}
 use Rattle.connect.proofs.Checks.{listed_next, listed_none, alike_length}
 use Rattle.connect.proofs.scripts.list.Goals as goal

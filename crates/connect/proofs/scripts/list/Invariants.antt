@@ -1,7 +1,7 @@
 use Rattle.std.proofs.Common.{◌≡◌, ◌+◌, ◌≤◌, ◌++◌, All, length, drop, sum_by}
 use Rattle.std.specs.List.{AllZip}
 use Rattle.queue.specs.Jobs.{HasInput}
-use Rattle.connect.specs.inside.Listing.{checks_from, checks_in, IsEven}
+use Rattle.connect.specs.inside.ScriptLists.{checks_from, checks_in, IsEven}
 use Rattle.connect.proofs.scripts.list.Given as goal
 
 abbrev pub invariant-loop-index : goal.invariant-loop-index

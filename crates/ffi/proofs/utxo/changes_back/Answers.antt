@@ -1,7 +1,7 @@
 -- The layer has the coins that it is over.
 use Rattle.std.proofs.Common.{subst, sym}
 use Rattle.coins.specs.Coins.{Coins}
-use Rattle.connect.specs.Connecting.{IsConnected}
+use Rattle.connect.specs.ConnectedBlock.{IsConnected}
 use Rattle.ffi.proofs.utxo.changes_back.Goals as goal
 
 pub disconnect_in_layer-requires-clause-connected : goal.disconnect_in_layer-requires-clause-connected

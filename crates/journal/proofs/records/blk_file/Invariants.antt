@@ -1,6 +1,6 @@
 use Rattle.std.proofs.Common.{◌≡◌, take, false}
 use Rattle.std.specs.List.{flat_map, list_any}
-use Rattle.journal.specs.Saved.{record_of, is_long}
+use Rattle.journal.specs.SavedRun.{record_of, is_long}
 use Rattle.journal.proofs.records.blk_file.Given as goal
 
 abbrev pub invariant-loop-entry : goal.invariant-loop-entry

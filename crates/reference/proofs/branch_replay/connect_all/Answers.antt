@@ -12,7 +12,7 @@ use Rattle.reference.specs.declared.kept_block.KeptBlock.{KeptBlock}
 use Rattle.reference.specs.declared.branch_replay.Trial.TheVariants.{Valid}
 use Rattle.chain.specs.Replay.{replay}
 use Rattle.chain.specs.Regtest.{medians_of, ledger, regtest}
-use Rattle.reference.specs.inside.Replayed.{block_in, blocks_in, first_kept, is_valid, trial_after, trial_on}
+use Rattle.reference.specs.inside.Replay.{block_in, blocks_in, first_kept, is_valid, trial_after, trial_on}
 use Rattle.chain.specs.laws.Medians.{length-medians}
 use Rattle.reference.proofs.BranchReplay.{first_replay, first_trial, next_replay, next_trial, ends}
 use Rattle.reference.proofs.branch_replay.connect_all.Goals as goal

@@ -1,7 +1,7 @@
 use Rattle.std.proofs.Common.{◌≡◌, ℕ, ◌+◌, ◌-◌, List, [], ◌∷◌, ◌++◌, length, reverse, take, drop, sym, ap, ◌∙◌, arith}
 use Rattle.std.proofs.lemmas.List.{take_rest}
 use Rattle.locks.specs.MedianTime.{median_of}
-use Rattle.reference.specs.inside.Replayed.{medians_in}
+use Rattle.reference.specs.inside.Replay.{medians_in}
 use Rattle.reference.proofs.BranchReplay.{medians_more}
 use Rattle.reference.proofs.branch_replay.medians.Goals as goal
 

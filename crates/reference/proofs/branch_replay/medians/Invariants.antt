@@ -1,5 +1,5 @@
 use Rattle.std.proofs.Common.{◌≡◌, ◌-◌, length, reverse, drop}
-use Rattle.reference.specs.inside.Replayed.{medians_in}
+use Rattle.reference.specs.inside.Replay.{medians_in}
 use Rattle.reference.proofs.branch_replay.medians.Given as goal
 
 abbrev pub invariant-loop-height : goal.invariant-loop-height

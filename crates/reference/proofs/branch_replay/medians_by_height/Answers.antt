@@ -1,6 +1,6 @@
 use Rattle.std.proofs.Common.{◌≡◌, ℕ, List, reverse, sym, ap, ◌∙◌, subst}
 use Rattle.std.specs.Prelude.{IfOk}
-use Rattle.reference.specs.inside.Replayed.{blocks_in, medians_in}
+use Rattle.reference.specs.inside.Replay.{blocks_in, medians_in}
 use Rattle.reference.proofs.BranchReplay.{medians-times}
 use Rattle.reference.proofs.branch_replay.medians_by_height.Goals as goal
 

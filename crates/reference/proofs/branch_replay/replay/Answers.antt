@@ -7,7 +7,7 @@ use Rattle.chain.specs.Regtest.{medians_of, regtest}
 use Rattle.chain.specs.laws.Medians.{length-medians}
 use Rattle.reference.specs.declared.branch_replay.Trial.TheVariants.{Valid}
 use Rattle.reference.specs.declared.kept_block.KeptBlock.{KeptBlock}
-use Rattle.reference.specs.inside.Replayed.{block_in, blocks_in, is_valid, trial_after, trial_on}
+use Rattle.reference.specs.inside.Replay.{block_in, blocks_in, is_valid, trial_after, trial_on}
 use Rattle.reference.proofs.BranchReplay.{above_below, above_valid}
 use Rattle.reference.proofs.branch_replay.replay.Goals as goal
 

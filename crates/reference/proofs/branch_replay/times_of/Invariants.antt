@@ -1,6 +1,6 @@
 use Rattle.std.proofs.Common.{◌≡◌, map, take}
 use Rattle.tree.specs.MedianTime.{time_of}
-use Rattle.reference.specs.inside.Replayed.{blocks_in}
+use Rattle.reference.specs.inside.Replay.{blocks_in}
 use Rattle.reference.proofs.branch_replay.times_of.Given as goal
 
 abbrev pub invariant-loop-index : goal.invariant-loop-index

@@ -7,7 +7,7 @@ use Rattle.tree.specs.Sound.{IsBest}
 use Rattle.tree.specs.laws.Best.{best_next}
 use Rattle.chain.specs.Settle.{can_be_active}
 use Rattle.chain.specs.Regtest.{regtest}
-use Rattle.reference.specs.inside.Replayed.{AreJudgements, judgement_in, no_judgement, above}
+use Rattle.reference.specs.inside.Replay.{AreJudgements, judgement_in, no_judgement, above}
 use Rattle.chain.specs.laws.Actives.{active_only, can_from, valid-genesis}
 use Rattle.reference.proofs.States.{can-is, above-is}
 use Rattle.reference.proofs.judgement.best_of.Goals.{then-beats, else-beats}

@@ -6,7 +6,7 @@ use Rattle.tree.specs.State.{State, has_no_mark}
 use Rattle.tree.specs.Sound.{IsBest}
 use Rattle.chain.specs.Settle.{can_be_active}
 use Rattle.chain.specs.Regtest.{regtest}
-use Rattle.reference.specs.inside.Replayed.{AreJudgements}
+use Rattle.reference.specs.inside.Replay.{AreJudgements}
 use Rattle.reference.proofs.judgement.best_of.Given as goal
 
 abbrev pub invariant-loop-place : goal.invariant-loop-place

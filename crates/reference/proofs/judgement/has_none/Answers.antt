@@ -1,7 +1,7 @@
 use Rattle.std.proofs.Common.{ℕ, ◌+◌, Bool, not, ◌&&◌, drop, sym, ap, ◌∙◌}
 use Rattle.std.specs.List.{list_all}
 use Rattle.std.proofs.lemmas.List.{at_drop_more, at_drop_all}
-use Rattle.reference.specs.inside.Replayed.{is_flagged}
+use Rattle.reference.specs.inside.Replay.{is_flagged}
 use Rattle.reference.proofs.judgement.has_none.Goals as goal
 
 pub loop-index-preserved : goal.loop-index-preserved

@@ -1,6 +1,6 @@
 use Rattle.std.proofs.Common.{◌≡◌, not, drop}
 use Rattle.std.specs.List.{list_all}
-use Rattle.reference.specs.inside.Replayed.{is_flagged}
+use Rattle.reference.specs.inside.Replay.{is_flagged}
 use Rattle.reference.proofs.judgement.has_none.Given as goal
 
 abbrev pub invariant-loop-index : goal.invariant-loop-index

@@ -2,7 +2,7 @@ use Rattle.std.proofs.Common.{◌≡◌, ℕ, Bool, get_or, not, List, length, a
 use Rattle.std.specs.List.{list_all}
 use Rattle.tree.specs.Branches.{branch}
 use Rattle.reference.specs.declared.kept_block.KeptBlock.{KeptBlock}
-use Rattle.reference.specs.inside.Replayed.{blocks_of, is_flagged}
+use Rattle.reference.specs.inside.Replay.{blocks_of, is_flagged}
 use Rattle.reference.proofs.States.{branch_within, branch_usable}
 use Rattle.reference.proofs.judgement.is_usable.Goals as goal
 

@@ -12,8 +12,8 @@ use Rattle.reference.specs.declared.branch_replay.Trial.{Trial}
 use Rattle.reference.specs.declared.branch_replay.Trial.TheVariants.{Valid}
 use Rattle.reference.specs.declared.judgement.Judgement.{Judgement}
 use Rattle.reference.specs.declared.kept_block.KeptBlock.{KeptBlock}
-use Rattle.reference.specs.declared.replayed.Replayed.{Replayed}
-use Rattle.reference.specs.inside.Replayed.{AreJudged, IsRight, blocks_before, blocks_of, chain_rules, judgement_at, state_of_replayed, trial_on}
+use Rattle.reference.specs.declared.state.Replayed.{Replayed}
+use Rattle.reference.specs.inside.Replay.{AreJudged, IsRight, blocks_before, blocks_of, chain_rules, judgement_at, state_of_replayed, trial_on}
 use Rattle.reference.proofs.KeptBlocks.{length-blocks, parent_before}
 use Rattle.reference.proofs.States.{genesis-usable, state-bad}
 use Rattle.reference.proofs.judgement.judge.Goals as goal

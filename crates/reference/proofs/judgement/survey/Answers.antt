@@ -2,7 +2,7 @@ use Rattle.std.proofs.Common.{ℕ, ◌+◌, get_or, List, [], ◌∷◌, length,
 use Rattle.std.proofs.lemmas.Bool.{cases_eq}
 use Rattle.std.proofs.lemmas.List.{length_push, get_or_push, get_or_append_left}
 use Rattle.reference.specs.declared.judgement.Judgement.{Judgement}
-use Rattle.reference.specs.inside.Replayed.{chain_rules, judgement_at, state_of_replayed}
+use Rattle.reference.specs.inside.Replay.{chain_rules, judgement_at, state_of_replayed}
 use Rattle.reference.proofs.States.{count}
 use Rattle.reference.proofs.judgement.survey.Goals as goal
 

@@ -1,6 +1,6 @@
 use Rattle.std.proofs.Common.{◌≡◌, ℕ, ◌<◌, length, get_or}
 use Rattle.reference.specs.declared.judgement.Judgement.{Judgement}
-use Rattle.reference.specs.inside.Replayed.{chain_rules, judgement_at, state_of_replayed}
+use Rattle.reference.specs.inside.Replay.{chain_rules, judgement_at, state_of_replayed}
 use Rattle.reference.proofs.judgement.survey.Given as goal
 
 abbrev pub invariant-loop-place : goal.invariant-loop-place

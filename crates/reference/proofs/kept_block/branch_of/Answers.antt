@@ -1,6 +1,6 @@
 use Rattle.std.proofs.Common.{ℕ, List, [], ◌∷◌, ◌++◌, sym, ap, ◌∙◌, arith}
 use Rattle.tree.specs.Branches.{branch}
-use Rattle.reference.specs.inside.Replayed.{blocks_of}
+use Rattle.reference.specs.inside.Replay.{blocks_of}
 use Rattle.tree.specs.laws.Branches.{branch-genesis}
 use Rattle.reference.proofs.KeptBlocks.{parent_before, walk_on}
 use Rattle.reference.proofs.kept_block.branch_of.Goals as goal

@@ -1,6 +1,6 @@
 use Rattle.std.proofs.Common.{◌≡◌, ◌<◌, ◌++◌, length}
 use Rattle.tree.specs.Branches.{branch}
-use Rattle.reference.specs.inside.Replayed.{blocks_of}
+use Rattle.reference.specs.inside.Replay.{blocks_of}
 use Rattle.reference.proofs.kept_block.branch_of.Given as goal
 
 abbrev pub invariant-down : goal.invariant-down

@@ -2,7 +2,7 @@ use Rattle.std.proofs.Common.{◌≡◌, ℕ, suc, length, Bool, true, false, is
 use Rattle.hash.specs.declared.id.Id.{Id}
 use Rattle.tree.specs.Branches.{id_at}
 use Rattle.tree.specs.Names.{names}
-use Rattle.reference.specs.inside.Replayed.{blocks_of}
+use Rattle.reference.specs.inside.Replay.{blocks_of}
 use Rattle.reference.proofs.KeptBlocks.{length-blocks, last_below, place-last, last_more}
 use Rattle.reference.proofs.kept_block.find.Goals.{then-is_eq, else-is_eq}
 use Rattle.reference.proofs.kept_block.find.Goals as goal

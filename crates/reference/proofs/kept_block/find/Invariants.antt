@@ -1,7 +1,7 @@
 use Rattle.std.proofs.Common.{◌≡◌}
 use Rattle.tree.specs.Branches.{id_at}
 use Rattle.tree.specs.Names.{names}
-use Rattle.reference.specs.inside.Replayed.{blocks_of}
+use Rattle.reference.specs.inside.Replay.{blocks_of}
 use Rattle.reference.proofs.KeptBlocks.{last_below}
 use Rattle.reference.proofs.kept_block.find.Given as goal
 

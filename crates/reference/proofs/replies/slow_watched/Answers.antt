@@ -7,7 +7,7 @@ use Rattle.chain.specs.declared.reply.Reply.{Reply}
 use Rattle.chain.specs.Submission.{Outcome}
 use Rattle.chain.specs.Commands.{outcome, replies_of}
 use Rattle.chain.specs.Regtest.{regtest}
-use Rattle.reference.specs.inside.Replayed.{state_of_replayed}
+use Rattle.reference.specs.inside.Replay.{state_of_replayed}
 use Rattle.reference.proofs.replies.slow_watched.Goals as goal
 
 pub loop-index-init : goal.loop-index-init

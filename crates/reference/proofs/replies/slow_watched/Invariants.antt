@@ -2,7 +2,7 @@ use Rattle.std.proofs.Common.{◌≡◌, ◌++◌, drop}
 use Rattle.tree.specs.State.{opening}
 use Rattle.chain.specs.Commands.{replies_of}
 use Rattle.chain.specs.Regtest.{regtest}
-use Rattle.reference.specs.inside.Replayed.{IsRight, state_of_replayed}
+use Rattle.reference.specs.inside.Replay.{IsRight, state_of_replayed}
 use Rattle.reference.proofs.replies.slow_watched.Given as goal
 
 abbrev pub invariant-loop-index : goal.invariant-loop-index

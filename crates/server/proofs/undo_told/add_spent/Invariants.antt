@@ -2,7 +2,7 @@
 use Rattle.std.proofs.Common.{◌≡◌, ◌++◌, map, take}
 use Rattle.json.specs.Json.{object}
 use Rattle.serving.specs.Answers.{spent_members}
-use Rattle.server.specs.inside.Listing.{spent_json}
+use Rattle.server.specs.inside.Lists.{spent_json}
 use Rattle.server.proofs.undo_told.add_spent.Given as goal
 
 abbrev pub invariant-loop-coin : goal.invariant-loop-coin

@@ -5,8 +5,8 @@ use Rattle.std.proofs.Common.{◌∙◌, ap, subst, sym}
 use Rattle.json.specs.Json.{Items, array, no_members, member}
 use Rattle.coins.specs.declared.coin.Coin.{Coin}
 use Rattle.serving.specs.Answers.{spent_items}
-use Rattle.server.specs.inside.Listing.{spent_json, items}
-use Rattle.server.specs.inside.Answering.{IsReadLine, spent_answer}
+use Rattle.server.specs.inside.Lists.{spent_json, items}
+use Rattle.server.specs.inside.Answers.{IsReadLine, spent_answer}
 use Rattle.server.proofs.Steps.{spent_are}
 use Rattle.server.proofs.undo_told.spent_line.Goals as goal
 

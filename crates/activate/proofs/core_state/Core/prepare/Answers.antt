@@ -30,8 +30,8 @@ use Rattle.activate.proofs.Wanted.{wanted_by}
 use Rattle.chain.specs.laws.Outcomes.{refused, submitted}
 use Rattle.chain.specs.laws.Steps.{step-known, step-full, step-faulty}
 use Rattle.tree.specs.declared.new_block.NewBlock.{NewBlock}
-use Rattle.activate.specs.declared.prepared.Prepared.{Prepared}
-use Rattle.activate.specs.declared.prepared.Edit.TheVariants.{Keep}
+use Rattle.activate.specs.declared.plan.Prepared.{Prepared}
+use Rattle.activate.specs.declared.plan.Edit.TheVariants.{Keep}
 use Rattle.chain.specs.declared.submission.PreparedCommand.{PreparedCommand}
 use Rattle.chain.specs.declared.submission.PreparedCommand.TheVariants as asked
 use Rattle.chain.specs.Prepared.{command_of}

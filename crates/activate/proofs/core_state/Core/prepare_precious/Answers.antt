@@ -6,8 +6,8 @@ use Rattle.tree.specs.State.{with_call, has_no_mark}
 use Rattle.tree.specs.Sound.{IsBest}
 use Rattle.tree.specs.laws.Added.{place-bound}
 use Rattle.activate.specs.declared.path.Attempt.{Attempt}
-use Rattle.activate.specs.declared.prepared.Edit.TheVariants.{Call}
-use Rattle.activate.specs.declared.prepared.Settled.{Settled}
+use Rattle.activate.specs.declared.plan.Edit.TheVariants.{Call}
+use Rattle.activate.specs.declared.plan.Settled.{Settled}
 use Rattle.activate.specs.inside.Paths.{IsAttempt}
 use Rattle.block.specs.declared.block.Block.{Block}
 use Rattle.hash.specs.declared.id.Id.{Id}

@@ -4,7 +4,7 @@ use Rattle.tree.specs.Names.{names}
 use Rattle.tree.specs.State.{State, without_marks}
 use Rattle.tree.specs.laws.Added.{place-bound}
 use Rattle.block.specs.declared.block.Block.{Block}
-use Rattle.activate.specs.declared.prepared.Prepared.{Prepared}
+use Rattle.activate.specs.declared.plan.Prepared.{Prepared}
 use Rattle.chain.specs.declared.reply.MarkReply.TheVariants.{NotFound}
 use Rattle.chain.specs.declared.reply.Reply.TheVariants as reply
 use Rattle.activate.specs.inside.Preparation.{CanTry, HasOtherMarks, IsPreparationFor}

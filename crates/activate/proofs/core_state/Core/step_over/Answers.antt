@@ -4,7 +4,7 @@ use Rattle.coins.specs.laws.Changing.{laid-changes}
 use Rattle.chain.specs.Prepared.{command_of}
 use Rattle.chain.specs.declared.reply.Reply.{Reply}
 use Rattle.chain.specs.Regtest.{regtest}
-use Rattle.activate.specs.declared.laying.ChangesToLay.{ChangesToLay}
+use Rattle.activate.specs.declared.own_coins.ChangesToLay.{ChangesToLay}
 use Rattle.activate.specs.inside.Preparation.{core_after_commit}
 use Rattle.activate.specs.CoreState.{Follows, KeepsUndo, CoreState, coins_of}
 use Rattle.activate.proofs.Undo.{few-of, more-undo, undo-follows}

@@ -4,7 +4,7 @@ use Rattle.std.proofs.lemmas.Result.{err_from_is_err_and}
 use Rattle.block.specs.declared.block.Block.{Block}
 use Rattle.coins.specs.declared.coin.Coin.{Coin}
 use Rattle.coins.specs.Coins.{Coins, Layer}
-use Rattle.connect.specs.Connecting.{IsConnected}
+use Rattle.connect.specs.ConnectedBlock.{IsConnected}
 use Rattle.connect.specs.Setting.{Setting}
 use Rattle.connect.specs.Turns.{effect, undo_of}
 use Rattle.connect.specs.laws.Scripts.{fault-found}

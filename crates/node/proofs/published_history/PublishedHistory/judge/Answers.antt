@@ -5,7 +5,7 @@ use Rattle.chain.specs.declared.entry.Entry.{Entry}
 use Rattle.view.specs.Origin.{Origin}
 use Rattle.node.specs.inside.Knowledge.{known_of}
 use Rattle.node.specs.inside.PublishedState.{PublishedState, IsCoreReply, IsReplyAfter}
-use Rattle.node.specs.inside.Refused.{IsWantAfter, IsWantOf}
+use Rattle.node.specs.inside.Refusal.{IsWantAfter, IsWantOf}
 use Rattle.node.proofs.DryRuns.{for_err, for_ok, replied_after}
 use Rattle.node.proofs.Knowing.{wanted_after}
 use Rattle.node.proofs.published_history.PublishedHistory.judge.Goals as goal

@@ -7,10 +7,10 @@ use Rattle.chain.specs.Learnt.{IsNews}
 use Rattle.chain.specs.Prepared.{command_of}
 use Rattle.view.specs.Origin.{Origin, known_in}
 use Rattle.view.specs.ViewState.{IsLegal}
-use Rattle.node.specs.inside.Keeping.{IsReplyTo, IsUndecodable, is_step}
+use Rattle.node.specs.inside.Kept.{IsReplyTo, IsUndecodable, is_step}
 use Rattle.node.specs.inside.LastPlaces.{AreLastPlaces}
 use Rattle.node.specs.inside.PublishedState.{PublishedState, IsCoreStep, is_owed, with_entry}
-use Rattle.node.specs.inside.Refused.{IsWantAfter}
+use Rattle.node.specs.inside.Refusal.{IsWantAfter}
 use Rattle.node.proofs.Cores.{step_reply, step_taken, replied_legal, owed_core, owed_changes}
 use Rattle.node.proofs.Knowing.{agrees_here, knowledge-push, wanted_after}
 use Rattle.node.proofs.Lasts.{lasts_push}

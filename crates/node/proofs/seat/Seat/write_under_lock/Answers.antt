@@ -6,7 +6,7 @@ use Rattle.chain.specs.declared.entry.Entry.{Entry}
 use Rattle.chain.specs.History.{own_of, entry_of}
 use Rattle.chain.specs.Prepared.{command_of}
 use Rattle.node.specs.Pass.{owed_entry}
-use Rattle.node.specs.inside.Keeping.{IsReplyTo}
+use Rattle.node.specs.inside.Kept.{IsReplyTo}
 use Rattle.node.specs.inside.PublishedState.{PublishedState, IsStepAnswer}
 use Rattle.node.proofs.Answering.{answer_step}
 use Rattle.node.proofs.Owning.{begins_whole, own_push}

@@ -1,6 +1,0 @@
--- The rules are those of the bits.
-use Rattle.std.proofs.Common.{sym}
-use Rattle.ffi.proofs.evaluating.run.Goals as goal
-
-pub returns : goal.returns
-returns c = rw (sym c.flags_in-flags.ensures) c.eval_script.ensures

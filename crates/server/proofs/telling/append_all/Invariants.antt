@@ -1,8 +1,0 @@
-use Rattle.server.specs.inside.Telling.{GoesOn, Appends}
-use Rattle.server.proofs.telling.append_all.Given as goal
-
-abbrev pub invariant-loop-entry : goal.invariant-loop-entry
-invariant-loop-entry g l = record {
-  goes_on : GoesOn g.H.Host.calls l.fn.log.log l.log.log;
-  appended : Appends g.H.Host.calls l.fn.log.log l.log.log l.entry-index;
-}

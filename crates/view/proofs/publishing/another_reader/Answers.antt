@@ -1,5 +1,0 @@
-use Rattle.view.proofs.Turns.{admits}
-use Rattle.view.proofs.publishing.another_reader.Goals as goal
-
-pub reader-requires : goal.reader-requires
-reader-requires g c = admits _

@@ -1,5 +1,0 @@
-use Rattle.view.proofs.Turns.{sees}
-use Rattle.view.proofs.publishing.enter.Goals as goal
-
-pub enter_as-requires : goal.enter_as-requires
-enter_as-requires g c = sees _ _ _
