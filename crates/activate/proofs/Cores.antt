@@ -7,7 +7,7 @@ use Rattle.tree.specs.Branches.{Blocks, branch, height}
 use Rattle.tree.specs.laws.Branches.{branch_head}
 use Rattle.activate.specs.inside.Kept.{HasRoom, IsBranch}
 use Rattle.activate.specs.inside.ActiveBranch.{median_at}
-use Rattle.activate.specs.laws.Turning.{highest-long, medians-branch}
+use Rattle.activate.specs.laws.OtherBranch.{highest-long, medians-branch}
 
 -- of other blocks that are the same
 pub branch_of_same : (t u : Blocks Block) (p : ℕ) (places medians : List ℕ) (undo packed : List (List (List Coin))) → ◌≡◌ {A = Blocks Block} u t → IsBranch t p places medians undo packed → IsBranch u p places medians undo packed

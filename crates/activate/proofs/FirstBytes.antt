@@ -3,7 +3,7 @@ use Rattle.std.proofs.Common.{◌≡◌, ℕ, ◌≤◌, List, ◌++◌, length,
 use Rattle.std.proofs.lemmas.List.{length-append}
 use Rattle.std.proofs.Math.Seq.{take-append_seam}
 use Rattle.wire.specs.Grammar.{counted_list, number}
-use Rattle.wire.specs.Spelling.{i32le}
+use Rattle.wire.specs.Numbers.{i32le}
 use Rattle.txn.specs.Grammar.{transaction}
 use Rattle.block.specs.declared.block.Block.{Block}
 use Rattle.block.specs.declared.header.Header.{Header}

@@ -13,7 +13,7 @@ use Rattle.rules.specs.declared.in_force.InForce.{InForce}
 use Rattle.coins.specs.declared.coin.Coin.{Coin}
 use Rattle.coins.specs.Coins.{Coins}
 use Rattle.coins.specs.Changes.{AreChanges, after_changes}
-use Rattle.connect.specs.Setting.{Setting}
+use Rattle.connect.specs.BlockContext.{Setting}
 use Rattle.connect.specs.computed.Scripts.{connect_fault}
 use Rattle.connect.specs.Scripts.{AreWantedByBlock}
 use Rattle.connect.specs.Turns.{effect, undo_of}
@@ -21,14 +21,14 @@ use Rattle.tree.specs.Branches.{Kept, Blocks, has, branch, height, on, parent_at
 use Rattle.tree.specs.MedianTime.{median_time_past}
 use Rattle.tree.specs.Names.{names}
 use Rattle.tree.specs.laws.Above.{above, until, above-step}
-use Rattle.tree.specs.laws.Added.{block_there, blocks-new, blocks-old}
+use Rattle.tree.specs.laws.AddedBlock.{block_there, blocks-new, blocks-old}
 use Rattle.tree.specs.laws.Branches.{branch_there, height_there, on-bounds, on-itself, on_here, on_there, parent_here, parent_there}
 use Rattle.chain.specs.Rules.{Rules}
 use Rattle.chain.specs.Replay.{replay}
 use Rattle.chain.specs.Valid.{branch_connects}
 use Rattle.chain.specs.Regtest.{medians_of, setting_on, ledger, regtest}
 use Rattle.chain.specs.laws.Coins.{replay-block}
-use Rattle.chain.specs.laws.Connected.{fault_new, fault_there}
+use Rattle.chain.specs.laws.AddedBlock.{fault_new, fault_there}
 use Rattle.chain.specs.laws.InHand.{first_own, first_below}
 use Rattle.activate.specs.declared.path.BranchPath.{BranchPath}
 use Rattle.activate.specs.declared.path.Reorganisation.{Reorganisation}
@@ -36,9 +36,9 @@ use Rattle.activate.specs.CoreState.{branch_blocks, coins_after}
 use Rattle.activate.specs.Wants.{AreWantedAt}
 use Rattle.activate.specs.Lookups.{undo_at}
 use Rattle.activate.specs.inside.Paths.{AreWantedOnWay, IsPath, IsStop, LeadsTo}
-use Rattle.activate.specs.laws.Climbing.{length-branch}
-use Rattle.activate.specs.laws.Growing.{kept-parent, map_agree, undo-new, undo-old}
-use Rattle.activate.specs.laws.Noting.{above-on}
+use Rattle.activate.specs.laws.WalkUp.{length-branch}
+use Rattle.activate.specs.laws.Growth.{kept-parent, map_agree, undo-new, undo-old}
+use Rattle.activate.specs.laws.TryNotes.{above-on}
 
 -- ---- where a block on a branch stands, as it is connected
 

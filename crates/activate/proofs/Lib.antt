@@ -4,8 +4,8 @@ pub mod InHand
 pub mod NewBlock
 pub mod Openings
 pub mod Outcomes
-pub mod Planned
+pub mod PutInPlace
 pub mod Plans
 pub mod Trails
 pub mod Undo
-pub mod Wanted
+pub mod WantsOfBlocks

@@ -10,7 +10,7 @@ use Rattle.tree.specs.Names.{names}
 use Rattle.tree.specs.Nodes.{CanKeep}
 use Rattle.tree.specs.Sound.{IsBest}
 use Rattle.tree.specs.State.{beats, has_no_mark}
-use Rattle.tree.specs.laws.Added.{place-bound}
+use Rattle.tree.specs.laws.AddedBlock.{place-bound}
 use Rattle.activate.specs.declared.path.Attempt.{Attempt}
 use Rattle.activate.specs.declared.plan.Prepared.{Prepared}
 use Rattle.activate.specs.declared.plan.Settled.{Settled}
@@ -28,13 +28,13 @@ use Rattle.chain.specs.Rules.{Rules}
 use Rattle.chain.specs.Settle.{settle}
 use Rattle.chain.specs.Step.{Submit, step}
 use Rattle.chain.specs.Submission.{Outcome, answer_added, submit_says}
-use Rattle.chain.specs.laws.Settled.{settle-blocks}
+use Rattle.chain.specs.laws.SettledState.{settle-blocks}
 use Rattle.chain.specs.laws.Steps.{faultless-alone, faultless-parent, step-added, step-beside}
 use Rattle.activate.specs.CoreState.{CoreState, Follows, coins_of}
 use Rattle.activate.specs.inside.Paths.{IsAttempt}
 use Rattle.activate.specs.inside.Preparation.{CanTry, IsPreparationFor, IsSettledBy, IsTried, Settles, core_with_block, edited}
 use Rattle.activate.proofs.Plans.{can-follows}
-use Rattle.activate.proofs.Planned.{best-added, can-added, coins-added, one-try-added, plan-settled, says-added, settles-beside}
+use Rattle.activate.proofs.PutInPlace.{best-added, can-added, coins-added, one-try-added, plan-settled, says-added, settles-beside}
 
 module _ (triples : Triples) (a : CoreState) (follows : Follows a triples) (now : ℕ) (b : Block) (p : ℕ) (is : IsNew (regtest a.params triples) a.state now b p) where
   abbrev r : Rules Block Id

@@ -13,7 +13,7 @@ use Rattle.chain.specs.Rules.{Rules}
 use Rattle.chain.specs.Submission.{Outcome}
 use Rattle.chain.specs.Settle.{active}
 use Rattle.chain.specs.Commands.{outcome}
-use Rattle.chain.specs.Settled.{IsSettled, AllKept}
+use Rattle.chain.specs.StateInvariant.{IsSettled, AllKept}
 use Rattle.chain.specs.Regtest.{regtest}
 use Rattle.activate.specs.CoreState.{CoreState, Follows}
 use Rattle.activate.specs.inside.Preparation.{IsPreparation, core_after_commit, core_after_finish, edited}

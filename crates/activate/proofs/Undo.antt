@@ -26,7 +26,7 @@ use Rattle.chain.specs.laws.Tries.{tried-blocks}
 use Rattle.activate.specs.CoreState.{CoreState, Follows, HasOneMore, UndoFollows, lesser_of, most_undo}
 use Rattle.activate.specs.inside.Paths.{IsPath}
 use Rattle.activate.specs.inside.Preparation.{CanActivate, CanFinish, IsPreparation, IsPreparationFor, core_after_activation, core_after_commit, core_after_finish, edited, undo_after}
-use Rattle.activate.specs.laws.Turning.{come}
+use Rattle.activate.specs.laws.OtherBranch.{come}
 use Rattle.activate.proofs.Outcomes.{follows-plan}
 
 -- the path to a block on the active one

@@ -1,8 +1,8 @@
 -- A chainstate without its coins: the tree, which of its blocks is active, and the heights of soft forks.
 use Rattle.std.specs.Prelude.{◌≡◌, ℕ, suc, ◌+◌, ◌-◌, ◌<◌, nat_le, if◌then◌else◌, List, Option, None, Some}
 use Rattle.block.specs.declared.block.Block.{Block}
-use Rattle.block.specs.Decoding.{block_of_bytes}
-use Rattle.block.specs.Stored.{genesis_alone}
+use Rattle.block.specs.BlockOfBytes.{block_of_bytes}
+use Rattle.block.specs.StoredBlock.{genesis_alone}
 use Rattle.curve.specs.Triple.{Triples}
 use Rattle.coins.specs.Coins.{Coins}
 use Rattle.rules.specs.declared.params.Params.{Params}
@@ -13,7 +13,7 @@ use Rattle.tree.specs.Names.{names}
 use Rattle.chain.specs.Settle.{active}
 use Rattle.chain.specs.Replay.{replay}
 use Rattle.chain.specs.Regtest.{ledger, regtest}
-use Rattle.chain.specs.Settled.{IsSettled, AllKept}
+use Rattle.chain.specs.StateInvariant.{IsSettled, AllKept}
 
 pub record CoreState : Type 0 where
   pub params : Params

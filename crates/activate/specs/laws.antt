@@ -1,8 +1,8 @@
 -- Theorems on paths between branches, and on what is kept beside the tree.
 pub mod ByHeight
-pub mod Climbing
+pub mod WalkUp
 pub mod Fork
-pub mod Growing
+pub mod Growth
 pub mod Lookups
-pub mod Noting
-pub mod Turning
+pub mod TryNotes
+pub mod OtherBranch

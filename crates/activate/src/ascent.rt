@@ -4,7 +4,7 @@ ghost use Rattle.std.specs.Prelude.{◌≡◌, ◌≤◌, ◌<◌, ◌++◌, ◌
 ghost use Rattle.tree.specs.Branches.{parent_at, height};
 ghost use Rattle.chain.specs.Valid.{fault};
 ghost use Rattle.chain.specs.Regtest.{regtest};
-ghost use Rattle.chain.specs.Settled.{AllKept};
+ghost use Rattle.chain.specs.StateInvariant.{AllKept};
 ghost use Rattle.activate.specs.Wants.{AreJoined, AreWantedAt};
 ghost use Rattle.activate.specs.Lookups.{undo_at};
 ghost use Rattle.activate.specs.inside.Ascents.{top_of, AreMore, IsApplied, IsTop, AreWantedAbove, LeadsUp};

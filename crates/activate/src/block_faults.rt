@@ -7,7 +7,7 @@ ghost use Rattle.tree.specs.Branches.{branch, blocks_at, place_of};
 ghost use Rattle.tree.specs.Limits.{max_blocks};
 ghost use Rattle.tree.specs.Names.{names};
 ghost use Rattle.chain.specs.Context.{first_fault};
-ghost use Rattle.chain.specs.Submitted.{IsJudged};
+ghost use Rattle.chain.specs.SubmissionFacts.{IsJudged};
 ghost use Rattle.chain.specs.Regtest.{regtest};
 
 use block::Block;

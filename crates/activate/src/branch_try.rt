@@ -2,7 +2,7 @@
 
 ghost use Rattle.std.specs.Prelude.{◌≡◌, ◌<◌, ◌≤◌, ◌∷◌, suc, length, IfOk, IfErr, None, OnOk, IfSome, MatchOption};
 ghost use Rattle.chain.specs.Regtest.{regtest};
-ghost use Rattle.chain.specs.Submitted.{IsJudged};
+ghost use Rattle.chain.specs.SubmissionFacts.{IsJudged};
 ghost use Rattle.activate.specs.Wants.{AreJoined};
 ghost use Rattle.activate.specs.inside.Ascents.{IsApplied, IsTop};
 ghost use Rattle.activate.specs.inside.Paths.{AreWantedOnWay, IsActiveBranch, IsAttempt, IsPath, IsStop, IsValid, one_more};

@@ -2,7 +2,7 @@
 
 ghost use Rattle.std.specs.Prelude.{◌≡◌, ◌≤◌, Some, length, take};
 ghost use Rattle.block.specs.declared.block.Block.{Block};
-ghost use Rattle.block.specs.Decoding.{block_of_bytes};
+ghost use Rattle.block.specs.BlockOfBytes.{block_of_bytes};
 ghost use Rattle.block.specs.Genesis as genesis;
 ghost use Rattle.block.specs.Grammar.{header};
 

@@ -5,7 +5,7 @@ use crate::clock::{Outcome, Timer};
 use crate::fault::Fault;
 use block::merkle;
 use hash::{Id, double_sha};
-use scenarios::inputs::filling::{Filling, some_ids};
+use scenarios::inputs::random_bytes::{Filling, some_ids};
 use std::alloc::Global;
 use std::rt::Clock;
 

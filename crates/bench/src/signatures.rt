@@ -7,7 +7,7 @@ use crate::scripts::accepted;
 use curve::Table;
 use interp::{Flags, Job};
 use scenarios::inputs::lists::put;
-use scenarios::inputs::signed::{Signed, of_inputs};
+use scenarios::inputs::signed_transaction::{Signed, of_inputs};
 use scenarios::inputs::spends::ALL;
 use sighash::{Midstates, SpentScripts};
 use std::alloc::Global;

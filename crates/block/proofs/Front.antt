@@ -4,16 +4,16 @@ use Rattle.std.specs.Prelude.{IfOk, IfErr, IsOkAnd, ◌++◌}
 use Rattle.std.specs.Option.{unwrap_or}
 use Rattle.wire.specs.declared.fault.WireFault.{WireFault}
 use Rattle.wire.specs.Grammar.{IsBytes}
-use Rattle.wire.specs.computed.Reading.{◌>>=◌, Gives, counted_at}
-use Rattle.wire.specs.laws.Reading.{found_law, refused_law}
+use Rattle.wire.specs.computed.Reader.{◌>>=◌, Gives, counted_at}
+use Rattle.wire.specs.laws.Reader.{found_law, refused_law}
 use Rattle.txn.specs.declared.tx.Tx.{Tx}
-use Rattle.txn.specs.computed.Reading.{tx_at}
+use Rattle.txn.specs.computed.Reader.{tx_at}
 use Rattle.block.specs.declared.header.Header.{Header}
 use Rattle.block.specs.declared.block.Block.{Block}
 use Rattle.block.specs.Grammar.{header}
-use Rattle.block.specs.Decoding.{unless_more, whole_block, block_of_bytes}
-use Rattle.block.specs.computed.Reading.{header_at, block_at}
-use Rattle.block.specs.laws.Reading.{header_decides}
+use Rattle.block.specs.BlockOfBytes.{unless_more, whole_block, block_of_bytes}
+use Rattle.block.specs.computed.Reader.{header_at, block_at}
+use Rattle.block.specs.laws.Reader.{header_decides}
 
 abbrev Is : Block → Option Block → Type 0
 Is b None = ⊥

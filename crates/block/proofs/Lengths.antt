@@ -2,7 +2,7 @@
 use Rattle.std.proofs.Common.{◌≡◌, ℕ, ◌+◌, List, ◌++◌, length, length-append, sum_by, arith}
 use Rattle.std.specs.List.{flat_map}
 use Rattle.std.proofs.lemmas.List.Concat.{length-flat_map}
-use Rattle.wire.specs.Spelling.{compact_size, i32le, i64le}
+use Rattle.wire.specs.Numbers.{compact_size, i32le, i64le}
 use Rattle.wire.specs.Grammar.{sized_bytes, counted_list}
 use Rattle.byteorder.specs.Endian.{little_bytes}
 use Rattle.txn.specs.declared.input.TxIn.{TxIn}

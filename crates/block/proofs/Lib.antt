@@ -1,11 +1,11 @@
 pub mod Front
-pub mod Halving
+pub mod Halves
 pub mod Highest
 pub mod Lawful
 pub mod Lengths
-pub mod OneReading
+pub mod UniqueRecord
 pub mod Parts
 pub mod Records
-pub mod Spelled
+pub mod BlockBytes
 pub mod Tree
 pub mod Whole

@@ -1,7 +1,7 @@
 -- The parts of a header, one after the other.
 use Rattle.std.proofs.Common.{◌≡◌, List, ℕ, ◌++◌, refl, ap, ◌∙◌, append_assoc}
 use Rattle.byteorder.specs.Endian.{little_bytes}
-use Rattle.wire.specs.Spelling.{i32le}
+use Rattle.wire.specs.Numbers.{i32le}
 use Rattle.block.specs.declared.header.Header.{Header}
 use Rattle.block.specs.Grammar.{header}
 

@@ -5,7 +5,7 @@ use Rattle.std.proofs.lemmas.List.{append-nil}
 use Rattle.wire.specs.declared.fault.WireFault.{WireFault}
 use Rattle.wire.specs.declared.fault.WireFault.TheVariants as wire
 use Rattle.wire.specs.Grammar.{IsBytes}
-use Rattle.wire.specs.laws.Reading.{found_law, refused_law, same_read, same_fault, not_both}
+use Rattle.wire.specs.laws.Reader.{found_law, refused_law, same_read, same_fault, not_both}
 use Rattle.txn.specs.declared.fault.TxFault.{TxFault}
 use Rattle.txn.specs.declared.fault.TxFault.TheVariants as txn
 use Rattle.txn.specs.Fault.{wire_fault_of}
@@ -15,10 +15,10 @@ use Rattle.block.specs.declared.fault.ReadFault.TheVariants as faults
 use Rattle.block.specs.inside.Fault.{read_fault_of}
 use Rattle.block.specs.Grammar.{block}
 use Rattle.block.specs.Whole.{Faulty, HasExtra}
-use Rattle.block.specs.computed.Reading.{block_at}
-use Rattle.block.specs.laws.Reading.{block_decides}
-use Rattle.block.specs.Decoding.{block_of_bytes}
-use Rattle.block.specs.laws.Decoding.{read_again, read_faulty, read_extra, decoded-faulty}
+use Rattle.block.specs.computed.Reader.{block_at}
+use Rattle.block.specs.laws.Reader.{block_decides}
+use Rattle.block.specs.BlockOfBytes.{block_of_bytes}
+use Rattle.block.specs.laws.BlockBytes.{read_again, read_faulty, read_extra, decoded-faulty}
 
 abbrev pub told_wire : WireFault → ReadFault
 told_wire wire.Short = faults.Short

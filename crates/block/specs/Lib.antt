@@ -1,5 +1,5 @@
 pub mod Blk
-pub mod Decoding
+pub mod BlockOfBytes
 pub mod Equality
 pub mod Genesis
 pub mod Grammar
@@ -9,7 +9,7 @@ pub mod Merkle
 pub mod Progress
 pub mod Reward
 pub mod Sizes
-pub mod Stored
+pub mod StoredBlock
 pub mod Target
 pub mod Whole
 pub mod inside

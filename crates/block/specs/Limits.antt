@@ -1,7 +1,7 @@
 -- Blocks whose counts and lengths can be read again.
 use Rattle.std.specs.Prelude.{◌≤◌, List, length}
 use Rattle.std.specs.List.{All}
-use Rattle.wire.specs.Spelling.{limit}
+use Rattle.wire.specs.Numbers.{limit}
 use Rattle.txn.specs.declared.tx.Tx.{Tx}
 use Rattle.txn.specs.Limits as txn
 use Rattle.block.specs.declared.block.Block.{Block}

@@ -1,7 +1,7 @@
 //! Blk files, record by record.
 
 ghost use Rattle.std.specs.Prelude.{◌≡◌, ◌≢◌, ◌⊎◌, ◌+◌, ◌<◌, ◌≤◌, ◌^◌, ℕ, List, [], ◌++◌, length, IfOk, IfErr, IfSome, IfNone, OnOk, OnErr, Ok, Err, None, MatchOption, MatchResult};
-ghost use Rattle.wire.specs.Spelling.{limit};
+ghost use Rattle.wire.specs.Numbers.{limit};
 ghost use Rattle.block.specs.declared.blk_fault.BlkFault.{BlkFault};
 ghost use Rattle.block.specs.declared.blk_fault.BlkFault.TheVariants as faults;
 ghost use Rattle.block.specs.declared.blk.Stage.TheVariants as stages;

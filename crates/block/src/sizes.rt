@@ -1,7 +1,7 @@
 //! How many bytes a block has. A sum stops at the highest `u64`, far above what any block has.
 
 ghost use Rattle.std.specs.Prelude.{◌≡◌, ◌-◌, ◌^◌, ◌≤◌, length, min, sum_by};
-ghost use Rattle.wire.specs.Spelling.{compact_size};
+ghost use Rattle.wire.specs.Numbers.{compact_size};
 ghost use Rattle.wire.specs.Grammar.{sized_bytes};
 ghost use Rattle.txn.specs.Grammar as grammar;
 ghost use Rattle.block.specs.Sizes.{size_of};
@@ -100,7 +100,7 @@ fn id_size(id: &Id) -> u64
 }
 
 /// The bytes of a count, in the shortest of its forms.
-#[tactic(auto, unfolding(wire::specs::Spelling::compact_size))]
+#[tactic(auto, unfolding(wire::specs::Numbers::compact_size))]
 fn count_size(n: usize) -> u64
     ensures value { result ≡ length (compact_size n) }
     ensures small { result ≤ 9 }

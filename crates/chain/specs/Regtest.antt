@@ -11,7 +11,7 @@ use Rattle.rules.specs.declared.params.Params.{Params}
 use Rattle.rules.specs.Params.{at}
 use Rattle.rules.specs.Alone.{alone_rules}
 use Rattle.rules.specs.Context.{context_rules}
-use Rattle.connect.specs.Setting.{Setting}
+use Rattle.connect.specs.BlockContext.{Setting}
 use Rattle.connect.specs.Turns.{effect}
 use Rattle.connect.specs.computed.Scripts.{connect_fault}
 use Rattle.tree.specs.MedianTime.{median_time_past}

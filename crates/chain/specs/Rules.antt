@@ -1,7 +1,7 @@
 -- What the chain asks of its blocks. Nothing else of a block matters to it.
 use Rattle.std.specs.Prelude.{ℕ, List, Option}
 use Rattle.txn.specs.declared.reason.Reason.{Reason}
-use Rattle.tree.specs.Naming.{Naming}
+use Rattle.tree.specs.BlockNames.{Naming}
 
 -- B is what a block is, and I what its id is
 pub record Rules (B I : Type 0) : Type 0 where

@@ -4,7 +4,7 @@ pub mod Bound
 pub mod Candidates
 pub mod Coins
 pub mod Commands
-pub mod Connected
+pub mod AddedBlock
 pub mod Findings
 pub mod History
 pub mod InHand
@@ -14,10 +14,10 @@ pub mod Medians
 pub mod OneTry
 pub mod Ordinary
 pub mod Outcomes
-pub mod Preferring
-pub mod Settled
+pub mod Precious
+pub mod SettledState
 pub mod Steps
 pub mod Subsidies
 pub mod Tries
 pub mod Values
-pub mod Wording
+pub mod Settlement

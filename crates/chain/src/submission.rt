@@ -2,8 +2,8 @@
 
 ghost use Rattle.std.specs.Option.{option_copied};
 ghost use Rattle.std.specs.Prelude.{◌≡◌, IfOk};
-ghost use Rattle.chain.specs.Prepared.{command_of};
-ghost use Rattle.chain.specs.Submitted.{IsJudged, IsSubmission};
+ghost use Rattle.chain.specs.PreparedCommand.{command_of};
+ghost use Rattle.chain.specs.SubmissionFacts.{IsJudged, IsSubmission};
 
 use crate::command::Command;
 use crate::shared_triple::SharedTriple;
@@ -35,7 +35,7 @@ pub struct Submission {
 }
 
 impl Model for Submission {
-    ghost use Rattle.chain.specs.Submitted.{IsSubmission};
+    ghost use Rattle.chain.specs.SubmissionFacts.{IsSubmission};
     ghost use Rattle.std.specs.Prelude.{List, ℕ};
 
     ghost Value = { List ℕ };

@@ -1,9 +1,9 @@
-pub mod Copying
-pub mod Following
-pub mod Gathering
+pub mod MapCopies
+pub mod NextCoins
+pub mod ManyMaps
 pub mod Layers
-pub mod Listing
-pub mod Merging
-pub mod Moving
-pub mod Naming
+pub mod LayerChanges
+pub mod LayersMerge
+pub mod MovedCoins
+pub mod EntryNames
 pub mod Rooms

@@ -12,7 +12,7 @@ use Rattle.coins.specs.Coins.{Coins, outpoint_cmp, same, put}
 use Rattle.coins.specs.laws.Lookups.{total_order, same_coins, same-true, same-self, same-sym, get-put, entry_for}
 use Rattle.coins.specs.Changes.{Changes, after_changes}
 use Rattle.coins.specs.inside.Changes.{Changed, comers, goers, Undoes}
-use Rattle.coins.specs.laws.Changing.{get-laid, written_at}
+use Rattle.coins.specs.laws.Changes.{get-laid, written_at}
 use Rattle.coins.specs.laws.Lookups.{get-entries}
 use Rattle.std.specs.FinMap.{from_entries}
 

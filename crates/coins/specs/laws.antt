@@ -1,3 +1,3 @@
-pub mod Changing
+pub mod Changes
 pub mod Lookups
 pub mod Totals

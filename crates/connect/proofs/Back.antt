@@ -10,7 +10,7 @@ use Rattle.undo.specs.Effect.{after, coins_at, spent_coins, IsApplied}
 use Rattle.connect.specs.Turns.{Turn, turn, turns, effect, spent_in, left_by, full_count}
 use Rattle.connect.specs.inside.AppliedTransactions.{AreApplied, IsBlockApplied}
 use Rattle.connect.proofs.Steps.{tail_of}
-use Rattle.connect.specs.laws.Folding.{turns_none, turns_next, applied_at}
+use Rattle.connect.specs.laws.Turns.{turns_none, turns_next, applied_at}
 
 id_in : (txs : List Tx) (i : ℕ) (x : Tx) (d : Id) → i < length txs → x ≡ get_or txs i x → get_or (ids_of txs) i d ≡ id_of x
 id_in [] i x d h e = absurd (omega arith)

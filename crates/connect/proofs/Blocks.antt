@@ -11,12 +11,12 @@ use Rattle.block.specs.Reward.{subsidy_of}
 use Rattle.coins.specs.Coins.{Coins}
 use Rattle.connect.specs.declared.stop.Stop.{Stop}
 use Rattle.connect.specs.declared.stop.Stop.TheVariants.{Broken, Memory}
-use Rattle.connect.specs.Setting.{Setting}
+use Rattle.connect.specs.BlockContext.{Setting}
 use Rattle.connect.specs.Turns.{Turn, turn, turns, spent_in, undo_of, left_by, full_count}
 use Rattle.connect.specs.Faults.{overwrites, fees, reward_of, turn_rules, connect_rules}
 use Rattle.connect.specs.inside.Turns.{IsReason}
 use Rattle.connect.specs.laws.Broken.{skip, stop}
-pub use Rattle.connect.specs.laws.Folding.{turns_none, turns_next, effect_none, effect_next}
+pub use Rattle.connect.specs.laws.Turns.{turns_none, turns_next, effect_none, effect_next}
 
 -- rules of which the first ones aren't broken
 pub past : (xs ys : Rules) → first_broken xs ≡ None → first_broken (xs ++ ys) ≡ first_broken ys

@@ -16,8 +16,8 @@ use Rattle.interp.specs.Question.{question, question_of}
 use Rattle.interp.specs.Answer.{Answer, Says, Wants}
 use Rattle.interp.specs.computed.Step.{verdict}
 use Rattle.queue.specs.Jobs.{HasInput, IsAccepted, verdict_at}
-use Rattle.queue.specs.laws.Failing.{AcceptsAt, FailsAt}
-use Rattle.queue.specs.Telling.{AreTheWants, IsEnd, want_of, wants_below}
+use Rattle.queue.specs.laws.FirstFailure.{AcceptsAt, FailsAt}
+use Rattle.queue.specs.FirstAnswer.{AreTheWants, IsEnd, want_of, wants_below}
 use Rattle.connect.specs.Scripts.{Check, input_checks, IsFirstRefused, AreWantedAmong, want_first, wants_of}
 use Rattle.connect.specs.inside.ScriptLists.{checks_from}
 

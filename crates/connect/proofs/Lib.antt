@@ -1,7 +1,7 @@
 pub mod Steps
 pub mod Turns
 pub mod Blocks
-pub mod Parted
+pub mod BlockParts
 pub mod Checks
 pub mod Whole
 pub mod Back

@@ -13,7 +13,7 @@ use Rattle.coins.specs.declared.coin.Coin.{Coin}
 use Rattle.coins.specs.Coins.{Coins, sum_of_values}
 use Rattle.undo.specs.Effect.{spends, coins_at}
 use Rattle.rules.specs.Alone.{max_block_sigops, tx_sigops}
-use Rattle.connect.specs.Setting.{Setting}
+use Rattle.connect.specs.BlockContext.{Setting}
 use Rattle.connect.specs.Turns.{Turn, turn, spent_in}
 use Rattle.connect.specs.Faults.{has_coin, is_immature, lock_start, spends_immature, pays_too_much, is_locked}
 use Rattle.connect.specs.laws.Broken.{UpToCoins}

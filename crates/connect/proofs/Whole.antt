@@ -19,7 +19,7 @@ use Rattle.coins.specs.declared.coin.Coin.{Coin}
 use Rattle.coins.specs.Coins.{Coins}
 use Rattle.undo.specs.Effect.{spends, coins_at, spent_coins}
 use Rattle.rules.specs.declared.in_force.InForce.{InForce}
-use Rattle.connect.specs.Setting.{Setting}
+use Rattle.connect.specs.BlockContext.{Setting}
 use Rattle.connect.specs.Turns.{Turn, turn, turns, spent_in, undo_of, left_by, full_count}
 use Rattle.connect.specs.Faults.{connect_rules}
 use Rattle.connect.specs.Scripts.{Check, flags_of, input_checks, script_checks, IsFirstRefused, IsBefore, IsConnectFault}

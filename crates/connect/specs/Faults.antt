@@ -16,7 +16,7 @@ use Rattle.coins.specs.declared.coin.Coin.{Coin}
 use Rattle.coins.specs.Coins.{Coins, sum_of_values}
 use Rattle.undo.specs.Effect.{outpoint_at, spends}
 use Rattle.rules.specs.Alone.{max_block_sigops}
-use Rattle.connect.specs.Setting.{Setting, median_below}
+use Rattle.connect.specs.BlockContext.{Setting, median_below}
 use Rattle.connect.specs.Turns.{Turn, spent_in, plain_count, full_count, turns}
 
 abbrev pub has_coin : Coins → OutPoint → Bool

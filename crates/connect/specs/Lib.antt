@@ -1,4 +1,4 @@
-pub mod Setting
+pub mod BlockContext
 pub mod Turns
 pub mod Faults
 pub mod Scripts

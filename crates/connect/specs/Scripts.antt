@@ -15,7 +15,7 @@ use Rattle.queue.specs.Jobs.{IsAccepted}
 use Rattle.coins.specs.declared.coin.Coin.{Coin}
 use Rattle.coins.specs.Coins.{Coins}
 use Rattle.rules.specs.declared.in_force.InForce.{InForce}
-use Rattle.connect.specs.Setting.{Setting}
+use Rattle.connect.specs.BlockContext.{Setting}
 use Rattle.connect.specs.Turns.{spent_in, turns}
 use Rattle.connect.specs.Faults.{connect_rules}
 

@@ -1,9 +1,9 @@
 -- What holds of the definitions.
 pub mod Alone
-pub mod Applying
+pub mod Application
 pub mod AtTable
 pub mod Broken
-pub mod Folding
+pub mod Turns
 pub mod Scripts
 pub mod Stops
 pub mod Total

@@ -9,7 +9,7 @@ ghost use Rattle.txn.specs.Identity.{ids_of};
 ghost use Rattle.block.specs.Reward.{subsidy_of};
 ghost use Rattle.coins.specs.Entries.{over, IsSound};
 ghost use Rattle.rules.specs.Alone.{max_block_sigops, alone_rules};
-ghost use Rattle.connect.specs.Setting.{setting};
+ghost use Rattle.connect.specs.BlockContext.{setting};
 ghost use Rattle.connect.specs.Turns.{turns, effect};
 ghost use Rattle.connect.specs.Faults.{overwrites, fees, turn_rules, connect_rules};
 ghost use Rattle.connect.specs.Scripts.{IsConnectFault, AreWantedByBlock};

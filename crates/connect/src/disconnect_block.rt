@@ -3,7 +3,7 @@
 ghost use Rattle.std.specs.Prelude.{◌≡◌, ℕ, IfOk, OnOk, OnErr};
 ghost use Rattle.txn.specs.Identity.{ids_of};
 ghost use Rattle.coins.specs.Coins.{Coins};
-ghost use Rattle.connect.specs.Setting.{Setting};
+ghost use Rattle.connect.specs.BlockContext.{Setting};
 ghost use Rattle.coins.specs.Entries.{over, IsSound};
 ghost use Rattle.connect.specs.ConnectedBlock.{IsConnected};
 ghost use Rattle.connect.specs.inside.AppliedTransactions.{AreApplied, IsBlockApplied};

@@ -3,7 +3,7 @@
 ghost use Rattle.std.specs.Prelude.{◌≡◌, ◌+◌, ◌≤◌, false, None, Some, IfOk, IfErr, length};
 ghost use Rattle.txn.specs.Check.{tx_rules};
 ghost use Rattle.txn.specs.First.{first_broken};
-ghost use Rattle.connect.specs.Setting.{Setting};
+ghost use Rattle.connect.specs.BlockContext.{Setting};
 ghost use Rattle.connect.specs.Turns.{turn, spent_in};
 ghost use Rattle.connect.specs.Faults.{fee, input_rules, is_missing};
 ghost use Rattle.coins.specs.Coins.{Coins};

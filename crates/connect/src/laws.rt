@@ -9,7 +9,7 @@ ghost use Rattle.block.specs.Reward.{subsidy_of};
 ghost use Rattle.curve.specs.Triple.{Triples};
 ghost use Rattle.coins.specs.Coins.{Coins, total};
 ghost use Rattle.rules.specs.Alone.{alone_rules};
-ghost use Rattle.connect.specs.Setting.{Setting};
+ghost use Rattle.connect.specs.BlockContext.{Setting};
 ghost use Rattle.connect.specs.Turns.{effect};
 ghost use Rattle.connect.specs.Faults.{connect_rules};
 ghost use Rattle.connect.specs.Scripts.{IsConnectFault};

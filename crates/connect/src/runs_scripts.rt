@@ -4,7 +4,7 @@ ghost use Rattle.std.specs.Prelude.{◌≡◌, All, List, None, Option, length, 
 ghost use Rattle.curve.specs.Known.{Agrees, Known};
 ghost use Rattle.curve.specs.Triple.{Triple, Triples};
 ghost use Rattle.queue.specs.Jobs.{AreNumbered, HasInput, verdict_at};
-ghost use Rattle.queue.specs.Telling.{AreOfBoth, Told};
+ghost use Rattle.queue.specs.FirstAnswer.{AreOfBoth, Told};
 
 use crate::context::Env;
 use interp::Job;

@@ -9,7 +9,7 @@ ghost use Rattle.locks.specs.Relative.{are_met};
 ghost use Rattle.undo.specs.Effect.{spends, without};
 ghost use Rattle.rules.specs.Alone.{max_block_sigops};
 ghost use Rattle.coins.specs.Coins.{Coins, same};
-ghost use Rattle.connect.specs.Setting.{Setting, setting, median_below};
+ghost use Rattle.connect.specs.BlockContext.{Setting, setting, median_below};
 ghost use Rattle.connect.specs.Turns.{turn, plain_count, full_count};
 ghost use Rattle.connect.specs.Faults.{is_immature, lock_start, fee, overwrites, turn_rules};
 ghost use Rattle.connect.specs.inside.Turns.{HasFound, IsReason, IsLawful, Passes};

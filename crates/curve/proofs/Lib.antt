@@ -1,6 +1,6 @@
 pub mod Once
 pub mod Parts
-pub mod Learning
+pub mod NewVerdict
 pub mod Search
 pub mod Words
 pub mod Tables

@@ -3,4 +3,4 @@ pub mod Shape
 pub mod Members
 pub mod Order
 pub mod Growth
-pub mod Agreeing
+pub mod Agreement

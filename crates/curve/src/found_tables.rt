@@ -83,7 +83,7 @@ impl FoundTables {
 }
 
 impl KnowsSignatures for FoundTables {
-    ghost use Rattle.curve.specs.laws.Agreeing.{found_agrees};
+    ghost use Rattle.curve.specs.laws.Agreement.{found_agrees};
 
     ghost known = { verdict_in };
 

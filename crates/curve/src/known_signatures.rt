@@ -105,7 +105,7 @@ fn add_parts(parts: &mut Vec<FoundTables>, least: usize) -> Result<(), Memory>
 }
 
 impl KnowsSignatures for KnownSignatures {
-    ghost use Rattle.curve.specs.laws.Agreeing.{found_agrees};
+    ghost use Rattle.curve.specs.laws.Agreement.{found_agrees};
 
     ghost known = { verdict_in };
 

@@ -24,7 +24,7 @@ pub trait KnowsSignatures {
 /// Of a table all is known.
 impl KnowsSignatures for Table {
     ghost use Rattle.curve.specs.Known.{all_known};
-    ghost use Rattle.curve.specs.laws.Agreeing.{table_agrees};
+    ghost use Rattle.curve.specs.laws.Agreement.{table_agrees};
 
     ghost known = { all_known };
 

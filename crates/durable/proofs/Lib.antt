@@ -1,6 +1,6 @@
-pub mod Keeping
+pub mod FileCalls
 mod Lives
-mod Opening
+mod CutEnd
 pub mod Sound
 mod Torn
 mod Whole

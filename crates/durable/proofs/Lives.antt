@@ -4,7 +4,7 @@ use Rattle.std.proofs.lemmas.List.{append-nil}
 use mathlib.Core.List.{IsPrefix}
 use Rattle.durable.specs.Crash.{Event}
 use Rattle.durable.specs.Lines.{lines}
-use Rattle.durable.specs.Keeping.{told, AreUpTo, Keeps, Life, IsLife, AreLives, AllAreUpTo, left_by}
+use Rattle.durable.specs.KeptSteps.{told, AreUpTo, Keeps, Life, IsLife, AreLives, AllAreUpTo, left_by}
 use Rattle.durable.proofs.Torn.{up_to_more}
 
 abbrev Lines : Type 0

@@ -7,11 +7,11 @@ use Rattle.durable.specs.declared.log.Log.{Log}
 use Rattle.durable.specs.declared.log.Answer.{Answer}
 use Rattle.durable.specs.Crash.{Event, File, Synced, Appended, Leaves, append, sync, file_after}
 use Rattle.durable.specs.Lines.{lines, AreWhole, IsLine}
-use Rattle.durable.specs.Keeping.{Told, told, AreUpTo, Keeps, KeepsNow, KeepsBetween}
+use Rattle.durable.specs.KeptSteps.{Told, told, AreUpTo, Keeps, KeepsNow, KeepsBetween}
 use Rattle.durable.specs.Log.{on_disk, history, IsSound, as_told}
 use Rattle.durable.proofs.Whole.{lines-append, lines_push, whole-append, whole_push}
 use Rattle.durable.proofs.Torn.{keeps_torn, keeps_synced, up_to_more}
-use Rattle.durable.proofs.Keeping.{file_next, told_same, told-append, up_to_push, started, goes_on}
+use Rattle.durable.proofs.FileCalls.{file_next, told_same, told-append, up_to_push, started, goes_on}
 
 abbrev pub call : Asked → Bool → List ℕ → Event
 call asked done bytes = (record { asked = asked; is_done = done }, bytes)

@@ -4,7 +4,7 @@ use Rattle.std.proofs.lemmas.Bool.{cases_eq}
 use mathlib.Core.List.{IsPrefix}
 use Rattle.durable.specs.Crash.{IsTorn, Leaves, Appended}
 use Rattle.durable.specs.Lines.{lines_on, lines, AreWhole}
-use Rattle.durable.specs.Keeping.{Told, AreUpTo, Keeps}
+use Rattle.durable.specs.KeptSteps.{Told, AreUpTo, Keeps}
 use Rattle.durable.proofs.Whole.{on_zero, on_end, on_other, lines-append}
 
 none_begins : (xs ys : List (List ℕ)) → xs ≡ [] → IsPrefix xs ys

@@ -1,5 +1,5 @@
 pub mod Crash
-pub mod Keeping
+pub mod KeptSteps
 pub mod Lines
 pub mod Log
 pub mod inside

@@ -3,7 +3,7 @@ use Rattle.std.specs.Prelude.{◌≡◌, ℕ, ◌+◌, ◌<◌, true, false, Lis
 use Rattle.durable.specs.declared.host.Asked.TheVariants.{Open}
 use Rattle.durable.specs.Crash.{Event, File, Synced, Appended, Shortened, Unsaid, file_after}
 use Rattle.durable.specs.Lines.{lines, AreWhole}
-use Rattle.durable.specs.Keeping.{Told, told, AreUpTo, KeepsBetween}
+use Rattle.durable.specs.KeptSteps.{Told, told, AreUpTo, KeepsBetween}
 use Rattle.durable.specs.declared.log.Log.{Log}
 use Rattle.durable.specs.declared.log.Answer.{Answer}
 

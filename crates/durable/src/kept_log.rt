@@ -4,7 +4,7 @@ ghost use Rattle.std.specs.Prelude.{◌≡◌, ◌≤◌, ◌++◌, ◌∷◌, [
 ghost use Rattle.std.proofs.Props.{props};
 ghost use Rattle.durable.specs.inside.Props.{whole-prop, up_to-prop};
 ghost use Rattle.durable.specs.Lines.{lines, IsEnd};
-ghost use Rattle.durable.specs.Keeping.{KeepsBetween, HasFailed};
+ghost use Rattle.durable.specs.KeptSteps.{KeepsBetween, HasFailed};
 ghost use Rattle.durable.specs.Log.{history, IsSound, KeepsThrough, opened, as_told, heard, FirstWaits};
 
 use crate::host::Host;

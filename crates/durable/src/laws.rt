@@ -3,7 +3,7 @@
 ghost use Rattle.std.specs.Prelude.{List, ℕ, length};
 ghost use mathlib.Core.List.{IsPrefix};
 ghost use Rattle.durable.specs.Lines.{lines};
-ghost use Rattle.durable.specs.Keeping.{Life, AreLives, AllAreUpTo, left_by};
+ghost use Rattle.durable.specs.KeptSteps.{Life, AreLives, AllAreUpTo, left_by};
 
 /// Of lives that each opened the file that the one before had left, and kept their histories: the last file begins with
 /// the lines of the first, and has every step that anyone was told of in any of them.

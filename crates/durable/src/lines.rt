@@ -4,7 +4,7 @@ ghost use Rattle.std.specs.Prelude.{◌≡◌, ◌≤◌, ◌<◌, ◌+◌, ◌�
 ghost use Rattle.std.specs.Prelude.{take, drop, IfOk, OnErr, MatchOption};
 ghost use Rattle.durable.specs.Crash.{Synced, file_after};
 ghost use Rattle.durable.specs.Lines.{lines, AreWhole, IsEnd, IsLine};
-ghost use Rattle.durable.specs.Keeping.{told, KeepsNow, KeepsBetween, HasFailed};
+ghost use Rattle.durable.specs.KeptSteps.{told, KeepsNow, KeepsBetween, HasFailed};
 
 use crate::host::Host;
 

@@ -4,7 +4,7 @@ ghost use Rattle.std.specs.Prelude.{◌≡◌, ◌≤◌, ◌^◌, ◌-◌, ◌�
 ghost use Rattle.std.specs.Prelude.{if◌then◌else◌, false, length, take, drop, IfOk, OnOk, OnErr, IsErrOf};
 ghost use Rattle.durable.specs.Crash.{Synced, file_after};
 ghost use Rattle.durable.specs.Lines.{lines, AreWhole, IsEnd, IsLine};
-ghost use Rattle.durable.specs.Keeping.{told, AreUpTo, KeepsBetween, HasFailed};
+ghost use Rattle.durable.specs.KeptSteps.{told, AreUpTo, KeepsBetween, HasFailed};
 ghost use Rattle.durable.specs.Log.{on_disk, history, IsSound, KeepsThrough, opened, as_told, heard, FirstWaits};
 ghost use Rattle.durable.specs.declared.log.AppendFault.TheVariants as faults;
 

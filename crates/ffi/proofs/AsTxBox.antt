@@ -11,8 +11,8 @@ use Rattle.std.proofs.alloc.Calls.{Fits, α}
 use Rattle.std.specs.contracts.alloc.Global as heap
 use Rattle.std.proofs.alloc.Global.TheLaws as heap_laws
 use Rattle.std.specs.contracts.impls.GlobalAllocator.TheImpl.{ghosts, dict}
-use Rattle.sighash.specs.contracts.precomputed.PrecomputedTx as tx
-use Rattle.sighash.proofs.precomputed.PrecomputedTx.TheLaws as tx_laws
+use Rattle.sighash.specs.contracts.precomputed_tx.PrecomputedTx as tx
+use Rattle.sighash.proofs.precomputed_tx.PrecomputedTx.TheLaws as tx_laws
 use Rattle.ffi.specs.contracts.box_address.Unboxed as unboxed
 use Rattle.ffi.specs.contracts.kept_tx.KeptTx as kept
 

@@ -1,4 +1,4 @@
-pub mod Asked
+pub mod ToldPart
 pub mod AsBox
 pub mod AsTxBox
 pub mod AsUtxoBox

@@ -4,7 +4,7 @@ use Rattle.std.specs.Prelude.{is_some, Bool}
 use Rattle.curve.specs.Known.{Under, Verdicts, verdict_in, with_verdict}
 use Rattle.curve.specs.Triple.{Triple, Triples}
 use Rattle.curve.specs.laws.Growth.{agrees-with-less, learning-grows}
-use Rattle.curve.specs.laws.Agreeing.{found_agrees}
+use Rattle.curve.specs.laws.Agreement.{found_agrees}
 use Rattle.chain.specs.declared.command.Command.{Command}
 use Rattle.activate.specs.CoreState.{WithCoins, IsChainstate}
 use Rattle.ffi.specs.declared.answers.Answer.{Answer}

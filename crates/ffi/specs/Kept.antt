@@ -5,7 +5,7 @@ use Rattle.std.specs.Prelude.{Option, None, Some}
 use Rattle.std.specs.Box.Ownership.{box_owns}
 use Rattle.std.specs.Global.{Global}
 use Rattle.std.specs.contracts.impls.GlobalAllocator.TheImpl.{ghosts}
-use Rattle.sighash.specs.contracts.precomputed.PrecomputedTx as tx
+use Rattle.sighash.specs.contracts.precomputed_tx.PrecomputedTx as tx
 use Rattle.ffi.specs.contracts.session.Session.{the_row}
 use Rattle.ffi.specs.contracts.utxo.Utxo as utxo
 

@@ -6,13 +6,13 @@ use Rattle.curve.specs.Known.{Known, verdict_in}
 use Rattle.curve.specs.Lines.{lines}
 use Rattle.interp.specs.Answer.{Answer, Says, Wants}
 use Rattle.interp.specs.Question.{question}
-use Rattle.interp.specs.computed.Named.{Named, verify_script}
+use Rattle.interp.specs.computed.NamedFailures.{Named, verify_script}
 use Rattle.interp.specs.declared.flags.Flags.{Flags}
 use Rattle.interp.specs.declared.script_error.ScriptError.{ScriptError}
-use Rattle.sighash.specs.declared.precomputed.PrecomputedTx.{PrecomputedTx}
+use Rattle.sighash.specs.declared.precomputed_tx.PrecomputedTx.{PrecomputedTx}
 use Rattle.txn.specs.declared.tx.Tx.{Tx}
 use Rattle.txn.specs.Grammar.{transaction}
-use Rattle.txn.specs.computed.Reading.{tx_at}
+use Rattle.txn.specs.computed.Reader.{tx_at}
 use Rattle.ffi.specs.declared.shown.AllQuestion.{AllQuestion}
 use Rattle.ffi.specs.declared.shown.AllTold.{AllTold}
 use Rattle.ffi.specs.Known.{Asked, asked_of}

@@ -14,7 +14,7 @@ use Rattle.coins.specs.declared.coin.Coin.{Coin}
 use Rattle.coins.specs.Coins.{Coins}
 use Rattle.coins.specs.Next.{IsNext}
 use Rattle.rules.specs.Params.{at}
-use Rattle.connect.specs.Setting.{Setting}
+use Rattle.connect.specs.BlockContext.{Setting}
 use Rattle.connect.specs.Turns.{turn}
 use Rattle.connect.specs.Faults.{fee, input_rules}
 use Rattle.ffi.specs.declared.answers.ShownCoin.{ShownCoin}

@@ -11,7 +11,7 @@ use Rattle.curve.specs.Triple.{Triple, Triples}
 use Rattle.coins.specs.declared.coin.Coin.{Coin}
 use Rattle.coins.specs.Coins.{Coins}
 use Rattle.rules.specs.Alone.{alone_rules}
-use Rattle.connect.specs.Setting.{Setting}
+use Rattle.connect.specs.BlockContext.{Setting}
 use Rattle.connect.specs.Turns.{effect, undo_of}
 use Rattle.connect.specs.Scripts.{IsBefore, IsConnectFault, AreWantedByBlock}
 use Rattle.connect.specs.ConnectedBlock.{IsConnected}

@@ -3,7 +3,7 @@
 ghost use Rattle.std.specs.Prelude.{◌≡◌, ◌⊎◌, ℕ, List, length, pos, IfOk, IfErr, Err, None, Some};
 ghost use Rattle.txn.specs.First.{first_broken};
 ghost use Rattle.block.specs.Blk.{IsEnd, IsFault, IsOutside, IsRecord};
-ghost use Rattle.block.specs.Decoding.{block_of_bytes};
+ghost use Rattle.block.specs.BlockOfBytes.{block_of_bytes};
 ghost use Rattle.block.specs.Reward.{subsidy_of};
 ghost use Rattle.block.specs.Target.{meets_target};
 ghost use Rattle.block.specs.Whole.{Faulty};

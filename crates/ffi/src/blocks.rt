@@ -1,7 +1,7 @@
 //! The transactions of a block's bytes. No chainstate is looked at.
 
 ghost use Rattle.std.specs.Prelude.{◌≡◌, IfOk, map};
-ghost use Rattle.block.specs.Decoding.{block_of_bytes};
+ghost use Rattle.block.specs.BlockOfBytes.{block_of_bytes};
 ghost use Rattle.ffi.specs.Blocks.{IsListed, made_of};
 ghost use Rattle.ffi.specs.Room.{IsCounted};
 

@@ -1,11 +1,11 @@
 //! The block at the front of bytes, and how many of them it takes.
 
 ghost use Rattle.std.specs.Prelude.{◌≡◌, ◌+◌, length, IfOk, Some};
-ghost use Rattle.wire.specs.computed.Reading.{Gives, many_at, counted_at};
-ghost use Rattle.txn.specs.computed.Reading.{tx_at};
+ghost use Rattle.wire.specs.computed.Reader.{Gives, many_at, counted_at};
+ghost use Rattle.txn.specs.computed.Reader.{tx_at};
 ghost use Rattle.txn.specs.Fault.{wire_fault_of};
 ghost use Rattle.block.specs.Grammar as grammar;
-ghost use Rattle.block.specs.computed.Reading.{id_at, header_at, block_at};
+ghost use Rattle.block.specs.computed.Reader.{id_at, header_at, block_at};
 ghost use Rattle.ffi.specs.Refusals.{IsTold};
 
 use crate::answers::DONE;
@@ -43,7 +43,7 @@ fn whole(alloc: Global, bytes: &mut Cursor) -> Result<Block, TxFault>
     front(alloc, bytes)
 }
 
-#[tactic(auto, unfolding(block::specs::computed::Reading::id_at))]
+#[tactic(auto, unfolding(block::specs::computed::Reader::id_at))]
 fn id(bytes: &mut Cursor) -> Result<Id, WireFault>
     ensures { Gives Some result bytes.new (id_at bytes.old) }
 {
@@ -52,7 +52,7 @@ fn id(bytes: &mut Cursor) -> Result<Id, WireFault>
     Ok(Id(id))
 }
 
-#[tactic(auto, unfolding(block::specs::computed::Reading::header_at))]
+#[tactic(auto, unfolding(block::specs::computed::Reader::header_at))]
 fn header(bytes: &mut Cursor) -> Result<Header, WireFault>
     ensures { Gives Some result bytes.new (header_at bytes.old) }
 {
@@ -72,7 +72,7 @@ fn header(bytes: &mut Cursor) -> Result<Header, WireFault>
     })
 }
 
-#[tactic(auto, unfolding(wire::specs::computed::Reading::counted_at))]
+#[tactic(auto, unfolding(wire::specs::computed::Reader::counted_at))]
 fn txs(alloc: Global, bytes: &mut Cursor) -> Result<Txs, TxFault>
     ensures { Gives wire_fault_of result bytes.new (counted_at tx_at bytes.old) }
 {
@@ -91,7 +91,7 @@ fn each_tx(alloc: Global, bytes: &mut Cursor, count: u64) -> Result<Txs, TxFault
     Ok(Txs::from_vec(items))
 }
 
-#[tactic(auto, unfolding(block::specs::computed::Reading::block_at))]
+#[tactic(auto, unfolding(block::specs::computed::Reader::block_at))]
 fn front(alloc: Global, bytes: &mut Cursor) -> Result<Block, TxFault>
     ensures { Gives wire_fault_of result bytes.new (block_at bytes.old) }
 {

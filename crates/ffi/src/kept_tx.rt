@@ -3,7 +3,7 @@
 //! Only the three functions below that name the address are proved by hand.
 
 ghost use Rattle.std.specs.Prelude.{◌≡◌, Option, None, Some, IsSome};
-ghost use Rattle.sighash.specs.declared.precomputed.PrecomputedTx.{PrecomputedTx as TxValue};
+ghost use Rattle.sighash.specs.declared.precomputed_tx.PrecomputedTx.{PrecomputedTx as TxValue};
 ghost use Rattle.ffi.specs.Kept.{kept_tx_owns};
 ghost use Rattle.ffi.specs.inside.Storage.{kept_tx_coded};
 

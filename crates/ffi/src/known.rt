@@ -7,7 +7,7 @@ ghost use Rattle.interp.specs.Answer.{Stops};
 ghost use Rattle.interp.specs.Question.{question};
 ghost use Rattle.interp.specs.Rules.{Accepts};
 ghost use Rattle.interp.specs.computed.Step.{verdict};
-ghost use Rattle.txn.specs.computed.Reading.{tx_at};
+ghost use Rattle.txn.specs.computed.Reader.{tx_at};
 ghost use Rattle.ffi.specs.Known.{AreOf, IsFound, IsFoundBy, IsInputFound, IsLineTold, asked_of};
 ghost use Rattle.ffi.specs.Refusals.{IsTold};
 ghost use Rattle.ffi.specs.Scripts.{flags_of};

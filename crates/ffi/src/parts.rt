@@ -1,7 +1,7 @@
 //! A transaction's parts, read and written.
 
 ghost use Rattle.std.specs.Prelude.{◌≡◌, ◌≢◌, ◌⊎◌, ◌+◌, ◌<◌, ◌≤◌, ◌++◌, length, drop, map, IfOk, IfSome, IfNone, OnOk};
-ghost use Rattle.txn.specs.computed.Reading.{tx_at};
+ghost use Rattle.txn.specs.computed.Reader.{tx_at};
 ghost use Rattle.ffi.specs.Parts.{ArePut, HasParts, IsTooSmall, IsWritten, input_bytes, input_row, input_scripts, output_bytes, output_row, output_scripts, scripts_of};
 ghost use Rattle.ffi.specs.Refusals.{IsTold};
 

@@ -8,7 +8,7 @@ ghost use Rattle.script.specs.Num.{operand, shortest_bytes};
 ghost use Rattle.script.specs.Ops.{ops};
 ghost use Rattle.script.specs.Signatures.{p2sh_sigops};
 ghost use Rattle.sighash.specs.Digest.{digest_of};
-ghost use Rattle.txn.specs.computed.Reading.{tx_at};
+ghost use Rattle.txn.specs.computed.Reader.{tx_at};
 ghost use Rattle.ffi.specs.Refusals.{IsTold, bit};
 ghost use Rattle.ffi.specs.Room.{IsCounted};
 ghost use Rattle.ffi.specs.Scripts.{IsNumberTold, IsOfInput, IsInputJudged, IsJudged, IsOpShown, ShowsScript, flags_of};

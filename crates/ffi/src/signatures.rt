@@ -48,7 +48,7 @@ impl KnowsSignatures for Signatures {
 
 impl Judges for Signatures {
     ghost use Rattle.queue.specs.Jobs.{told_by};
-    ghost use Rattle.queue.specs.laws.Undecided.{memory_tells};
+    ghost use Rattle.queue.specs.laws.NoAnswer.{memory_tells};
 
     type Stop = Undecided;
 

@@ -2,7 +2,7 @@
 
 ghost use Rattle.std.specs.Prelude.{◌≡◌, ◌+◌, ◌⊎◌, length, map, IfOk, IfErr, Ok};
 ghost use Rattle.txn.specs.Grammar.{transaction};
-ghost use Rattle.txn.specs.computed.Reading.{tx_at};
+ghost use Rattle.txn.specs.computed.Reader.{tx_at};
 ghost use Rattle.rules.specs.Alone.{tx_sigops};
 ghost use Rattle.locks.specs.Finality.{is_final};
 ghost use Rattle.ffi.specs.Refusals.{IsTold, bit, broken_number};

@@ -15,7 +15,7 @@ ghost use Rattle.coins.specs.Coins.{Coins};
 ghost use Rattle.coins.specs.Next.{IsNext};
 ghost use Rattle.queue.specs.Jobs.{told_by};
 ghost use Rattle.rules.specs.Alone.{alone_rules};
-ghost use Rattle.connect.specs.Setting.{Setting, setting};
+ghost use Rattle.connect.specs.BlockContext.{Setting, setting};
 ghost use Rattle.connect.specs.ConnectedBlock.{IsConnected};
 ghost use Rattle.connect.specs.Faults.{fee};
 ghost use Rattle.connect.specs.Turns.{effect, turn};

@@ -3,8 +3,8 @@
 ghost use Rattle.std.specs.Prelude.{◌≡◌, ◌==◌, not, pos, None, IfOk, IfErr, slice_get};
 ghost use Rattle.txn.specs.Reason.{number_of};
 ghost use Rattle.std.specs.FinMap as coin_map;
-ghost use Rattle.txn.specs.computed.Reading.{tx_at};
-ghost use Rattle.block.specs.Decoding.{block_of_bytes};
+ghost use Rattle.txn.specs.computed.Reader.{tx_at};
+ghost use Rattle.block.specs.BlockOfBytes.{block_of_bytes};
 ghost use Rattle.block.specs.Whole.{Faulty};
 ghost use Rattle.block.specs.declared.fault.ReadFault.{ReadFault};
 ghost use Rattle.curve.specs.Triple.{triple_of};

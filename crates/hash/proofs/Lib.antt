@@ -1,2 +1,2 @@
-pub mod Reading
-mod Comparing
+pub mod IdDigits
+mod ByteOrder

@@ -2,8 +2,8 @@
 use Rattle.std.specs.Prelude.{◌≡◌, Bool, true, false, Option, Some, None, Result, Ok, Err}
 use Rattle.std.specs.Box.{box_value}
 use Rattle.curve.specs.Triple.{Triple}
-use Rattle.interp.specs.declared.unverified.Unverified.{Unverified}
-use Rattle.interp.specs.declared.unverified.Unverified.TheVariants.{Memory, Unknown}
+use Rattle.interp.specs.declared.no_verdict.Unverified.{Unverified}
+use Rattle.interp.specs.declared.no_verdict.Unverified.TheVariants.{Memory, Unknown}
 
 -- what is known suffices for an answer, or whether this signature is valid has to be found out first
 pub data Answer (A : Type 0) : Type 0 where

@@ -1,7 +1,7 @@
 pub mod Limits
 pub mod Stack
 pub mod Elements
-pub mod Spending
+pub mod ScriptContext
 pub mod State
 pub mod Signatures
 pub mod Timelocks

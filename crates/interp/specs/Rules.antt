@@ -9,7 +9,7 @@ use Rattle.curve.specs.Triple.{Triples}
 use Rattle.interp.specs.Limits.{max_ops, max_keys, max_elements, max_number_size}
 use Rattle.interp.specs.Stack.{Stack, Bytes, pop}
 use Rattle.interp.specs.Elements.{truth_bytes, top_is_true, natural_of}
-use Rattle.interp.specs.Spending.{Spending, spending_of}
+use Rattle.interp.specs.ScriptContext.{Spending, spending_of}
 use Rattle.interp.specs.declared.flags.Flags.{Flags}
 use Rattle.interp.specs.State.{State, is_executing, start}
 use Rattle.interp.specs.Signatures.{signed_code, is_valid, MayBeTried, Tries}

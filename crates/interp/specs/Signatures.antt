@@ -8,7 +8,7 @@ use Rattle.sighash.specs.Digest.{digest_of}
 use Rattle.curve.specs.Shape.{IsStrict}
 use Rattle.curve.specs.Triple.{triple_of}
 use Rattle.interp.specs.Stack.{Bytes}
-use Rattle.interp.specs.Spending.{Spending}
+use Rattle.interp.specs.ScriptContext.{Spending}
 use Rattle.interp.specs.declared.flags.Flags.{Flags}
 
 -- the shortest opcode by length that pushes these bytes

@@ -7,7 +7,7 @@ use Rattle.txn.specs.Sequence.{sequence_final, has_relative_locks, is_disabled, 
 use Rattle.interp.specs.Limits.{max_lock_size}
 use Rattle.interp.specs.Stack.{Bytes}
 use Rattle.interp.specs.Elements.{natural_of}
-use Rattle.interp.specs.Spending.{sequence_of}
+use Rattle.interp.specs.ScriptContext.{sequence_of}
 
 abbrev pub is_same : Bool → Bool → Bool
 is_same true b = b

@@ -1,4 +1,4 @@
 -- What private functions and invariants alone cite.
-pub mod Spending
-pub mod Going
+pub mod JobContext
+pub mod Outcomes
 pub mod Multisig

@@ -1,9 +1,9 @@
 -- What holds of the definitions.
 pub mod Answers
 pub mod Runs
-pub mod Checking
-pub mod Following
-pub mod Accepting
-pub mod Keeping
-pub mod Verifying
-pub mod Naming
+pub mod SignatureChecks
+pub mod OpcodeSteps
+pub mod Acceptance
+pub mod KnownVerdicts
+pub mod InputVerdict
+pub mod FailureNames

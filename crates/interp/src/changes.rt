@@ -1,9 +1,9 @@
 //! Opcodes that change the main stack alone.
 
 ghost use Rattle.std.specs.Prelude.{◌≡◌, IfOk};
-ghost use Rattle.interp.specs.inside.Going.{Gives};
+ghost use Rattle.interp.specs.inside.Outcomes.{Gives};
 ghost use Rattle.interp.specs.Effects.{push, verify, if_dup, size, equal_bytes};
-ghost use Rattle.interp.specs.computed.Meaning.{change_of};
+ghost use Rattle.interp.specs.computed.OpcodeRow.{change_of};
 
 use crate::element::Element;
 use crate::hashes::{Hash, digest_top};

@@ -4,17 +4,17 @@ ghost use Rattle.std.specs.Prelude.{◌≡◌, ◌<◌, ◌≤◌, ◌+◌, ℕ,
 ghost use Rattle.script.specs.Op.{number_of};
 ghost use Rattle.curve.specs.Known.{Known};
 ghost use Rattle.interp.specs.Answer.{answer_map};
-ghost use Rattle.interp.specs.inside.Going.{Goes, Leaves, GoesNamed, LeavesNamed};
+ghost use Rattle.interp.specs.inside.Outcomes.{Goes, Leaves, GoesNamed, LeavesNamed};
 ghost use Rattle.interp.specs.inside.Multisig.{counts_of};
 ghost use Rattle.interp.specs.Question.{Question, question_of};
-ghost use Rattle.interp.specs.inside.Going.{Gives};
+ghost use Rattle.interp.specs.inside.Outcomes.{Gives};
 ghost use Rattle.interp.specs.State.{start, is_executing};
 ghost use Rattle.interp.specs.Timelocks.{locks_until, locks_for};
-ghost use Rattle.interp.specs.computed.Meaning.{meaning, check_of};
+ghost use Rattle.interp.specs.computed.OpcodeRow.{meaning, check_of};
 ghost use Rattle.interp.specs.Effects.{verify, on_main, to_alt, from_alt, branch, turn, close, ask};
 ghost use Rattle.interp.specs.Rules.{skipped, with_count};
 ghost use Rattle.interp.specs.computed.Step.{after_executing, after_multisig, after_test, after_acting, within_bounds, step_at, step, stack_left};
-ghost use Rattle.interp.specs.computed.Named.{named, or_else, executed, acted, step_named};
+ghost use Rattle.interp.specs.computed.NamedFailures.{named, or_else, executed, acted, step_named};
 ghost use Rattle.interp.specs.Failures.{name_at, verify_name};
 ghost use Rattle.interp.specs.Row.{push_row, row_at, row_of, Sig, AndVerifies};
 
@@ -24,13 +24,13 @@ use crate::element::Element;
 use crate::failures::{name_at, verify_name};
 use crate::job::Job;
 use crate::multisig::{answer, many};
+use crate::no_verdict::Unverified;
 use crate::numbers::{Binary, join_numbers};
 use crate::op::{Op, Test, op_of};
 use crate::pile::Pile;
 use crate::script_error::ScriptError;
 use crate::signatures::judge;
 use crate::timelocks::{meets_lock_time, meets_sequence};
-use crate::unverified::Unverified;
 use curve::KnowsSignatures;
 use script::opcode::*;
 use script::pushed;
@@ -216,7 +216,7 @@ impl<'a> Execution<'a> {
     }
 
     /// CHECKMULTISIG: takes its keys, its signatures and one element more, and pushes its answer.
-    #[tactic(auto, using(crate::proofs::Taking::taking))]
+    #[tactic(auto, using(crate::proofs::MultisigStack::taking))]
     fn check_multisig<K: KnowsSignatures>(
         &mut self,
         alloc: Global,
@@ -494,7 +494,7 @@ impl<'a> Execution<'a> {
     }
 
     /// The same, whether its branch is taken or not.
-    #[tactic(auto, unfolding(crate::specs::computed::Named::acted))]
+    #[tactic(auto, unfolding(crate::specs::computed::NamedFailures::acted))]
     fn act_or_name<K: KnowsSignatures>(
         &mut self,
         alloc: Global,
@@ -558,7 +558,7 @@ impl<'a> Execution<'a> {
     }
 
     /// One opcode with its bytes, and why it fails where it does; `after` follows it in the script.
-    #[tactic(auto, unfolding(crate::specs::computed::Named::step_named))]
+    #[tactic(auto, unfolding(crate::specs::computed::NamedFailures::step_named))]
     pub fn step_or_name<K: KnowsSignatures>(
         &mut self,
         alloc: Global,

@@ -128,7 +128,7 @@ fn multisig_name(main: &Pile<Element>, count: usize) -> ScriptError
 
 /// The name of the failure of an opcode of this number, with the main stack that it finds and how many opcodes were
 /// counted with it.
-#[tactic(auto, using(crate::proofs::Naming::naming))]
+#[tactic(auto, using(crate::proofs::OpcodeNames::naming))]
 pub fn name_at(number: u8, main: &Pile<Element>, count: usize) -> ScriptError
     ensures { result ≡ name_at number main.now count }
 {

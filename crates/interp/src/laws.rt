@@ -5,13 +5,13 @@ ghost use Rattle.curve.specs.Known.{Known};
 ghost use Rattle.interp.specs.Question.{Question};
 ghost use Rattle.interp.specs.Stack.{Stack};
 ghost use Rattle.interp.specs.computed.Step.{outcome, verdict};
-ghost use Rattle.interp.specs.computed.Named.{eval_script, verify_script};
-ghost use Rattle.interp.specs.laws.Naming.{unnamed, passes};
+ghost use Rattle.interp.specs.computed.NamedFailures.{eval_script, verify_script};
+ghost use Rattle.interp.specs.laws.FailureNames.{unnamed, passes};
 ghost use Rattle.txn.specs.declared.tx.Tx.{Tx};
 ghost use Rattle.curve.specs.Triple.{Triples};
 ghost use Rattle.interp.specs.declared.flags.Flags.{Flags};
 ghost use Rattle.interp.specs.Rules.{Accepts};
-ghost use Rattle.interp.specs.computed.Verifying.{accepts};
+ghost use Rattle.interp.specs.computed.InputVerdict.{accepts};
 
 /// The verdict that is computed is the relation's.
 pub fn the_verdict_is_computed()

@@ -1,7 +1,7 @@
 //! Rows of the stack: what is taken, and what is left in its place.
 
 ghost use Rattle.std.specs.Prelude.{◌≡◌, IfOk};
-ghost use Rattle.interp.specs.inside.Going.{Gives};
+ghost use Rattle.interp.specs.inside.Outcomes.{Gives};
 ghost use Rattle.interp.specs.Effects.{moves};
 ghost use Rattle.interp.specs.computed.Groups.{move_of};
 

@@ -12,9 +12,9 @@ ghost use Rattle.interp.specs.inside.Multisig.{many, multisig_answer};
 
 use crate::element::{Element, natural};
 use crate::job::Job;
+use crate::no_verdict::Unverified;
 use crate::pile::Pile;
 use crate::signatures::{digest_for, is_valid, may_be_tried, signed_parts};
-use crate::unverified::Unverified;
 use curve::KnowsSignatures;
 use std::alloc::Global;
 use wire::Memory;

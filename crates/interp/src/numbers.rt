@@ -2,7 +2,7 @@
 
 ghost use Rattle.std.specs.Prelude.{◌≡◌, ◌^◌, ◌∷◌, pos, negsuc, ◌<ℤ◌, IfOk, OnOk, MatchOption, IfSome, Some, None};
 ghost use Rattle.script.specs.Num.{operand, shortest_bytes};
-ghost use Rattle.interp.specs.inside.Going.{Gives};
+ghost use Rattle.interp.specs.inside.Outcomes.{Gives};
 ghost use Rattle.interp.specs.Effects.{pop_number, one_number, two_numbers, within};
 ghost use Rattle.interp.specs.computed.Groups.{unary_of, binary_of};
 

@@ -2,7 +2,7 @@
 
 ghost use Rattle.std.specs.Prelude.{◌≡◌};
 ghost use Rattle.interp.specs.Row.{row_at};
-ghost use Rattle.interp.specs.computed.Meaning.{meaning};
+ghost use Rattle.interp.specs.computed.OpcodeRow.{meaning};
 
 use crate::changes::Change;
 use crate::hashes::Hash;

@@ -2,7 +2,7 @@
 
 ghost use Rattle.std.specs.Prelude.{◌≡◌, ◌<◌, ◌∷◌, length, remove, IfOk, IfSome, MatchOption, pos, None, Some};
 ghost use Rattle.script.specs.Num.{shortest_bytes};
-ghost use Rattle.interp.specs.inside.Going.{Gives};
+ghost use Rattle.interp.specs.inside.Outcomes.{Gives};
 ghost use Rattle.interp.specs.Effects.{depth, pop_place, pick, roll};
 
 use crate::element::{Element, natural};

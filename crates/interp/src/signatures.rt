@@ -13,7 +13,7 @@ ghost use Rattle.interp.specs.computed.Signatures.{may_be_tried, verdict_or_want
 use crate::element::Element;
 use crate::flags::Flags;
 use crate::job::Job;
-use crate::unverified::Unverified;
+use crate::no_verdict::Unverified;
 use curve::{KeptTriple, KnowsSignatures, der_shape};
 use script::opcode::{OP_CODESEPARATOR, OP_PUSHDATA1, OP_PUSHDATA2, OP_PUSHDATA4};
 use script::without;

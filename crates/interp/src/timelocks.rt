@@ -1,7 +1,7 @@
 //! CHECKLOCKTIMEVERIFY and CHECKSEQUENCEVERIFY (BIPs 65 and 112).
 
 ghost use Rattle.std.specs.Prelude.{◌≡◌, ◌<◌, ◌^◌, ◌==◌, length, Bool};
-ghost use Rattle.interp.specs.Spending.{sequence_of};
+ghost use Rattle.interp.specs.ScriptContext.{sequence_of};
 ghost use Rattle.txn.specs.LockTime.{is_height};
 ghost use Rattle.interp.specs.Timelocks.{locks_until, is_as_long, locks_for};
 ghost use Rattle.interp.specs.Timelocks.{is_met};

@@ -1,8 +1,8 @@
 -- What a replay says of a journal, as it is printed.
 use Rattle.std.specs.Prelude.{ℕ, List, ◌++◌, codes}
 use Rattle.std.specs.Fmt.{decimal}
-use Rattle.journal.specs.declared.finding.Finding.{Finding}
-use Rattle.journal.specs.declared.finding.Finding.TheVariants.{Agrees, Differs}
+use Rattle.journal.specs.declared.audit.Finding.{Finding}
+use Rattle.journal.specs.declared.audit.Finding.TheVariants.{Agrees, Differs}
 
 -- `agrees`, or `line N` with the number of the first line that differs, from 1
 abbrev pub text_of_finding : Finding → List ℕ

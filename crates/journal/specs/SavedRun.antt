@@ -1,6 +1,6 @@
 -- What is saved of a run.
 use Rattle.std.specs.Prelude.{ℕ, ◌+◌, ◌-◌, nat_lt, Bool, false, List, [], length}
-use Rattle.wire.specs.Spelling.{limit}
+use Rattle.wire.specs.Numbers.{limit}
 use Rattle.block.specs.declared.blk_fault.BlkFault.{BlkFault}
 use Rattle.block.specs.Blk.{record_bytes, IsEnd, IsFault}
 use Rattle.block.specs.laws.Files.{Gave}

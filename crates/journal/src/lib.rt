@@ -1,10 +1,10 @@
 //! What is saved of a run, written and read back, and its replay.
 #![tactic(auto)]
 
+mod audit;
 mod blk_records;
 mod difference;
 mod fault;
-mod finding;
 mod heights;
 mod lines;
 mod quick;
@@ -14,10 +14,10 @@ mod saved_journal;
 mod state_replay;
 mod step;
 
+pub use audit::Finding;
 pub use blk_records::{Records, read_out, read_records};
 pub use difference::{Refuted, Replayer, first_refuted};
 pub use fault::JournalFault;
-pub use finding::Finding;
 pub use heights::read_heights;
 pub use records::{RecordFault, blk_file, put_record};
 pub use saved_journal::read_journal;

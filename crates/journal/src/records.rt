@@ -2,7 +2,7 @@
 
 ghost use Rattle.std.specs.Prelude.{◌≡◌, ◌++◌, ◌<◌, ◌≤◌, true, false, length, IfOk, IfErr, OnOk};
 ghost use Rattle.std.specs.List.{flat_map, list_any};
-ghost use Rattle.wire.specs.Spelling.{limit};
+ghost use Rattle.wire.specs.Numbers.{limit};
 ghost use Rattle.block.specs.Blk.{record_bytes};
 ghost use Rattle.journal.specs.SavedRun.{record_of, is_long};
 ghost use Rattle.journal.specs.declared.records.RecordFault.TheVariants as faults;

@@ -3,7 +3,7 @@ mod Cases
 mod InOrder
 mod KnownSchedule
 mod Midstates
-mod Padding
-mod Pairing
+mod PaddedMessage
+mod PairsInPlace
 mod Vectors
 mod Whole

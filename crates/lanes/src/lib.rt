@@ -7,7 +7,7 @@ mod digests;
 mod level;
 mod many;
 mod midstate;
-mod padded;
+mod padded_blocks;
 mod rounds;
 mod schedule;
 mod words;

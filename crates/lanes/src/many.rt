@@ -5,12 +5,12 @@ ghost use Rattle.sha2.specs.Sha256.{final_hash, initial_hash_256, word_at};
 ghost use Rattle.lanes.specs.Lane.{lanes};
 ghost use Rattle.lanes.specs.Messages.{ids_of};
 ghost use Rattle.lanes.specs.inside.Messages.{message_at};
-ghost use Rattle.lanes.specs.inside.Padded.{AreBlocks, AreCounts, AreTails};
+ghost use Rattle.lanes.specs.inside.PaddedBlocks.{AreBlocks, AreCounts, AreTails};
 ghost use Rattle.lanes.specs.State.{lane, lane_of};
 
 use crate::blocks::word;
 use crate::digests::hashed_again;
-use crate::padded::{block, block_count, tail};
+use crate::padded_blocks::{block, block_count, tail};
 use crate::rounds::{State, compressed, initial};
 use crate::words::{LANES, Words, chosen};
 use hash::{Id, double_sha};

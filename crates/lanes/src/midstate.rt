@@ -9,7 +9,7 @@ ghost use Rattle.lanes.specs.State.{lane};
 
 use crate::digests::hashed_again;
 use crate::many::load;
-use crate::padded::{padded, padded_len};
+use crate::padded_blocks::{padded, padded_len};
 use crate::rounds::{State, after_known, compressed, initial};
 use crate::schedule::sums;
 use crate::words::LANES;

@@ -23,7 +23,7 @@ use Rattle.node.specs.inside.Knowledge.{IsKnowledge, known_of}
 use Rattle.node.specs.inside.PublishedState.{IsCoreOf, IsCoreReply, IsReplyAfter}
 use Rattle.node.specs.inside.Writes.{IsSubmission}
 use Rattle.node.proofs.Comes.{comes}
-use Rattle.node.proofs.Knowing.{agrees_here}
+use Rattle.node.proofs.Knowledge.{agrees_here}
 
 -- of what is there both ways
 pub for_ok : {T E : Type 0} (P Q : T → Type 0) (r : Result T E) → ((x : T) → P x → Q x) → IfOk r P → IfOk r Q

@@ -5,7 +5,7 @@ use Rattle.std.specs.Option.{unwrap_or}
 use Rattle.hash.specs.declared.id.Id.{Id}
 use Rattle.txn.specs.declared.reason.Reason.{Reason}
 use Rattle.block.specs.declared.block.Block.{Block}
-use Rattle.block.specs.Decoding.{block_of_bytes}
+use Rattle.block.specs.BlockOfBytes.{block_of_bytes}
 use Rattle.tree.specs.Branches.{height, place_of}
 use Rattle.tree.specs.State.{State, without_marks, with_call}
 use Rattle.tree.specs.Limits.{max_blocks}
@@ -20,7 +20,7 @@ use Rattle.chain.specs.Context.{first_fault}
 use Rattle.chain.specs.Submission.{submit_says, kept_blocks, outcome_by_fault, outcome_of_submission}
 use Rattle.chain.specs.Step.{mark_says, outcome_of_invalidate, outcome_of_reconsider, outcome_of_precious, step}
 use Rattle.chain.specs.Commands.{submit_step, command_step, outcome}
-use Rattle.chain.specs.Settled.{IsSettled}
+use Rattle.chain.specs.StateInvariant.{IsSettled}
 use Rattle.chain.specs.laws.Actives.{active_kept}
 
 -- so many blocks are kept at most

@@ -27,8 +27,8 @@ use Rattle.view.specs.NextPublications.{IsNext, IsOwed, AllOwed, AllFollow}
 use Rattle.view.specs.declared.chain_info.ChainInfo.{ChainInfo}
 use Rattle.view.specs.declared.publication.Publication.{Publication}
 use Rattle.view.specs.laws.Exact.{all_exact, found-push, news-push, same_origin}
-use Rattle.node.specs.declared.published_history.pending.Pending.{Pending}
-use Rattle.node.specs.declared.published_history.pending.Pending.TheVariants as pending
+use Rattle.node.specs.declared.published_history.owed_step.Pending.{Pending}
+use Rattle.node.specs.declared.published_history.owed_step.Pending.TheVariants as pending
 use Rattle.node.specs.inside.PublishedState.{Shows, AreDue, changes_of, entry_with_reply, is_new, is_owed, owed_by}
 
 -- the state after an entry is that after its command

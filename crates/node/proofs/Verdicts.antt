@@ -6,7 +6,7 @@ use Rattle.node.specs.declared.answer.Learning.TheVariants as learning
 use Rattle.node.specs.declared.answer.Stamped.{Stamped}
 use Rattle.node.specs.Pass.{Pass, IsLater}
 use Rattle.node.specs.Runs.{Ensures, Learns, Learn}
-use Rattle.node.proofs.Owning.{begins_whole}
+use Rattle.node.proofs.OwnEntries.{begins_whole}
 
 -- one verdict more
 pub learns_one : (p : Pass) (ts : List Triple) (valid : Bool) (q : Pass) (t : Triple) (r : Stamped Learning) (z : Pass) → Learns p ts valid q → Ensures q z (Learn t valid (Ok r)) → (r.value ≡ learning.Contradicted → ⊥)

@@ -1,5 +1,5 @@
 pub mod Calls
-pub mod Opening
+pub mod OpenFault
 pub mod Pass
 pub mod Runs
 pub mod Told

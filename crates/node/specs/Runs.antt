@@ -7,7 +7,7 @@ use Rattle.hash.specs.declared.id.Id.{Id}
 use Rattle.txn.specs.declared.outpoint.OutPoint.{OutPoint}
 use Rattle.curve.specs.Triple.{Triple, Triples}
 use Rattle.coins.specs.declared.coin.Coin.{Coin}
-use Rattle.block.specs.Decoding.{block_of_bytes}
+use Rattle.block.specs.BlockOfBytes.{block_of_bytes}
 use Rattle.tree.specs.declared.tip.Tip.{Tip}
 use Rattle.chain.specs.declared.command.Command.{Command}
 use Rattle.chain.specs.declared.command.Command.TheVariants as command

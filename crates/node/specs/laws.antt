@@ -1,4 +1,4 @@
 -- Theorems on what a node is opened with, and on what its seats are answered.
-pub mod Opening
+pub mod OpenSeats
 pub mod Runs
 pub mod Verdicts

@@ -2,7 +2,7 @@
 
 ghost use Rattle.std.specs.Prelude.{◌≡◌, IfErr, IfOk, IfSome};
 ghost use Rattle.queue.specs.Jobs.{IsEarly};
-ghost use Rattle.chain.specs.Prepared.{command_of};
+ghost use Rattle.chain.specs.PreparedCommand.{command_of};
 ghost use Rattle.chain.specs.declared.command.Command.TheVariants as command;
 ghost use Rattle.chain.specs.declared.reply.Reply.TheVariants as reply;
 ghost use Rattle.view.specs.Origin.{known_in};
@@ -54,7 +54,7 @@ impl<'t, J: Naming> Seat<'t, J> {
     }
 
     /// Runs a submission's scripts, takes the lock, and judges it there. What the seat told of signatures is kept.
-    #[tactic(auto, using(crate::proofs::Owning::own_begins))]
+    #[tactic(auto, using(crate::proofs::OwnEntries::own_begins))]
     fn judge_command<R: Threads + Wait + Sync>(
         &mut self,
         rt: &R,
@@ -86,7 +86,7 @@ impl<'t, J: Naming> Seat<'t, J> {
     }
 
     /// Judges a submission under the lock, where nobody publishes meanwhile. A step that is owed is published first.
-    #[tactic(auto, using(crate::proofs::Owning::own_begins))]
+    #[tactic(auto, using(crate::proofs::OwnEntries::own_begins))]
     fn judge_under_lock<R: Threads + Wait + Sync>(
         &mut self,
         rt: &R,

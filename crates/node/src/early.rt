@@ -49,7 +49,7 @@ impl<'t, J: Naming> Seat<'t, J> {
 
     /// The scripts that can be run before the lock is taken: of a block that breaks no rule by itself, and whose
     /// parent is the best block that the seat sees. The view was left when they are given.
-    #[tactic(auto, using(crate::proofs::Owning::own_begins))]
+    #[tactic(auto, using(crate::proofs::OwnEntries::own_begins))]
     pub(crate) fn early_jobs<'c>(
         &mut self,
         alloc: Global,
@@ -79,7 +79,7 @@ impl<'t, J: Naming> Seat<'t, J> {
 
     /// The verdicts of those scripts by a table, if there is one, or else by what the seat told of signatures. They are run
     /// when the view was left: a reader that stays inside holds up all publications.
-    #[tactic(auto, using(crate::proofs::Owning::own_begins))]
+    #[tactic(auto, using(crate::proofs::OwnEntries::own_begins))]
     pub(crate) fn early_verdicts<'c, R: Threads + Sync>(
         &mut self,
         rt: &R,

@@ -38,7 +38,7 @@ impl<'t, J: Naming> Seat<'t, J> {
     }
 
     /// Looks the block up under the lock, where nobody publishes meanwhile. A step that is owed is published first.
-    #[tactic(auto, using(crate::proofs::Owning::own_begins))]
+    #[tactic(auto, using(crate::proofs::OwnEntries::own_begins))]
     fn spent_under_lock<R: Wait>(
         &mut self,
         rt: &R,

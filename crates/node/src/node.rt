@@ -7,10 +7,10 @@ ghost use Rattle.std.specs.Option.{option_map};
 ghost use Rattle.view.specs.Origin.{origin_of};
 ghost use Rattle.view.specs.ViewState.{IsLegal};
 ghost use Rattle.node.specs.Pass.{Pass, IsStanding, opening_passes};
-ghost use Rattle.node.specs.Opening.{IsAllowedCount, IsOpenFault};
+ghost use Rattle.node.specs.OpenFault.{IsAllowedCount, IsOpenFault};
 
 use crate::fault::{EndFault, OpenFault};
-use crate::naming::{Opening, SeatTokens};
+use crate::origin::{Opening, SeatTokens};
 use crate::published_history::{Opened, PublishedHistory, open_history};
 use crate::seat::Seat;
 use chain::Entry;

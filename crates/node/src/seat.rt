@@ -5,8 +5,8 @@ ghost use mathlib.Core.List.{IsPrefix};
 ghost use Rattle.view.specs.ViewState.{IsLegal};
 
 use crate::learnt::Learnt;
-use crate::naming::SeatToken;
 use crate::note::Note;
+use crate::origin::SeatToken;
 use crate::published_history::PublishedHistory;
 use crate::reader_home::ReaderHome;
 use chain::{Command, Submission};
@@ -84,7 +84,7 @@ impl<'t, J: Naming> Seat<'t, J> {
     }
 
     /// What this seat has seen. It takes no memory, and waits for nobody.
-    #[tactic(auto, using(crate::proofs::Owning::own_begins))]
+    #[tactic(auto, using(crate::proofs::OwnEntries::own_begins))]
     pub fn note(&self) -> Note<J>
         ensures origin { result.origin ≡ self.now.origin }
         ensures seen { result.seen ≡ self.now.seen }
@@ -97,7 +97,7 @@ impl<'t, J: Naming> Seat<'t, J> {
     }
 
     /// From now on the seat has seen that too. It takes no memory, and waits for nobody.
-    #[tactic(auto, using(crate::proofs::Owning::own_begins))]
+    #[tactic(auto, using(crate::proofs::OwnEntries::own_begins))]
     pub fn told(&mut self, note: &Note<J>)
         ensures later { IsLater self.old self.new }
         ensures mine { self.new.mine ≡ self.old.mine }
@@ -150,7 +150,7 @@ impl<'t, J: Naming> Seat<'t, J> {
     }
 
     /// Has seen this too, which goes on from what it had seen: how many entries that has.
-    #[tactic(auto, using(crate::proofs::Owning::own_begins))]
+    #[tactic(auto, using(crate::proofs::OwnEntries::own_begins))]
     pub(crate) fn see(&mut self, found: view::Note) -> u64
         requires book { found.book ≡ J.origin.book }
         requires grows { IsPrefix self.old.seen found.entries }

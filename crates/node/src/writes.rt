@@ -5,7 +5,7 @@ ghost use Rattle.std.specs.Prelude.{vec_capacity, vec_len};
 ghost use Rattle.curve.specs.Known.{Known};
 ghost use Rattle.queue.specs.Jobs.{IsEarly};
 ghost use Rattle.chain.specs.Learnt.{IsNews};
-ghost use Rattle.chain.specs.Prepared.{command_of};
+ghost use Rattle.chain.specs.PreparedCommand.{command_of};
 ghost use Rattle.chain.specs.declared.command.Command.{Command as CommandValue};
 ghost use Rattle.chain.specs.declared.command.Command.TheVariants as command;
 ghost use Rattle.view.specs.Origin.{known_in};
@@ -100,7 +100,7 @@ impl<'t, J: Naming> Seat<'t, J> {
     ghost use Rattle.node.specs.inside.Writes.{IsWriteAnswer, IsLeftBy, IsMark, IsSettledAtMost};
 
     /// The command that submits these bytes. What was made of them for a call that wanted signatures is taken again.
-    #[tactic(auto, using(crate::proofs::Owning::own_begins))]
+    #[tactic(auto, using(crate::proofs::OwnEntries::own_begins))]
     pub(crate) fn submitting(
         &mut self,
         alloc: Global,
@@ -132,7 +132,7 @@ impl<'t, J: Naming> Seat<'t, J> {
 
     /// Hands in the submission that the seat makes next, decoded and hashed already, perhaps by another thread: nothing of that
     /// needs a chain. The next call that submits or judges bytes takes it if they are its bytes, and drops it if not.
-    #[tactic(auto, using(crate::proofs::Owning::own_begins))]
+    #[tactic(auto, using(crate::proofs::OwnEntries::own_begins))]
     pub fn hand_in(&mut self, submission: Submission)
         ensures same { self.new ≡ self.old }
         ensures own { IsOwn self.new }
@@ -338,7 +338,7 @@ impl<'t, J: Naming> Seat<'t, J> {
     }
 
     /// Takes the step of a verdict, where none is known.
-    #[tactic(auto, using(crate::proofs::Owning::own_begins))]
+    #[tactic(auto, using(crate::proofs::OwnEntries::own_begins))]
     fn take_verdict<R: Threads + Wait + Sync>(
         &mut self,
         rt: &R,
@@ -376,7 +376,7 @@ impl<'t, J: Naming> Seat<'t, J> {
     }
 
     /// Has seen all that there is: how many entries that is.
-    #[tactic(auto, using(crate::proofs::Owning::own_begins))]
+    #[tactic(auto, using(crate::proofs::OwnEntries::own_begins))]
     pub(crate) fn see_all(&mut self, history: &PublishedHistory<J>) -> Result<u64, Fault>
         requires shown { history.now.owed ≡ false }
         ensures later { IsLater self.old self.new }
@@ -395,7 +395,7 @@ impl<'t, J: Naming> Seat<'t, J> {
     }
 
     /// Wants these signatures after all that there is, which it has then seen.
-    #[tactic(auto, using(crate::proofs::Owning::own_begins))]
+    #[tactic(auto, using(crate::proofs::OwnEntries::own_begins))]
     pub(crate) fn want(&mut self, history: &PublishedHistory<J>, wants: Vec<KeptTriple>) -> Fault
         requires shown { history.now.owed ≡ false }
         ensures later { IsLater self.old self.new }
@@ -438,7 +438,7 @@ impl<'t, J: Naming> Seat<'t, J> {
 
     /// Runs a submission's scripts, takes the lock, and there the step of a command. What the seat told of signatures is for
     /// one step, and kept where none is taken.
-    #[tactic(auto, using(crate::proofs::Owning::own_begins))]
+    #[tactic(auto, using(crate::proofs::OwnEntries::own_begins))]
     fn write<R: Threads + Wait + Sync>(
         &mut self,
         rt: &R,
@@ -470,7 +470,7 @@ impl<'t, J: Naming> Seat<'t, J> {
     }
 
     /// Takes the step of a command, and sees it: nobody publishes meanwhile. A step that is owed is published first.
-    #[tactic(auto, using(crate::proofs::Owning::own_begins))]
+    #[tactic(auto, using(crate::proofs::OwnEntries::own_begins))]
     fn write_under_lock<R: Threads + Wait + Sync>(
         &mut self,
         rt: &R,

@@ -6,7 +6,7 @@ use console::fault::{Fault, Line, Reason};
 use journal::Step;
 use node::{Reply, Stamped, Tip, UnspentOutput};
 use scenario::Label;
-use server::spelled::{output_of, reply_text};
+use server::texts::{output_of, reply_text};
 use serving::Object;
 use std::alloc::{AllocError, Global};
 

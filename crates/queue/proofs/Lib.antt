@@ -1,5 +1,5 @@
-pub mod Answering
+pub mod JobAnswers
 pub mod ClaimedPlaces
-pub mod Listing
+pub mod ListOfJobs
 pub mod Pairs
 pub mod Walks

@@ -8,8 +8,8 @@ use Rattle.txn.specs.declared.input.TxIn.{TxIn}
 use Rattle.txn.specs.declared.tx.Tx.{Tx}
 use Rattle.curve.specs.Known.{Known}
 use Rattle.interp.specs.computed.Step.{verdict}
-use Rattle.queue.proofs.Answering.{answered-says, says-answered, slice_get-push}
-use Rattle.interp.specs.laws.Keeping.{verdict-kept}
+use Rattle.queue.proofs.JobAnswers.{answered-says, says-answered, slice_get-push}
+use Rattle.interp.specs.laws.KnownVerdicts.{verdict-kept}
 use Rattle.interp.specs.declared.flags.Flags.{Flags}
 use Rattle.interp.specs.Answer.{Answer, Says}
 use Rattle.interp.specs.declared.job.Job.{Job}
@@ -18,7 +18,7 @@ use Rattle.queue.specs.declared.verdict_index.Key.{Key}
 use Rattle.queue.specs.declared.verdict_index.Slot.{Slot}
 use Rattle.interp.specs.Question.{Question, question, question_of}
 use Rattle.queue.specs.Jobs.{Answered, AreNumbered, Batch, IsEarly, Spending, answers_to, known_then, questions, tx_at}
-use Rattle.queue.specs.inside.Pairing.{spending_of, IsOfSame, Covers, first_outpoint, key_of, slot_for}
+use Rattle.queue.specs.inside.KnownAnswers.{spending_of, IsOfSame, Covers, first_outpoint, key_of, slot_for}
 use Rattle.queue.specs.Early.{Fits, AreKnown, AreAllKnown, answer_at}
 
 pub some_is : {A : Type 0} (x y : A) → ◌≡◌ {A = Option A} (Some x) (Some y) → x ≡ y

@@ -2,17 +2,17 @@
 use Rattle.std.proofs.Common.{◌≡◌, ◌≢◌, ℕ, zero, suc, ◌+◌, ◌<◌, Bool, true, false, List, [], ◌∷◌, ◌++◌, length, Option, Some, None, refl, sym, ap, subst, ◌∙◌, ⊎_elim, arith}
 use Rattle.std.specs.Prelude.{All, slice_get}
 use Rattle.std.proofs.lemmas.Bool.{cases_eq}
-use Rattle.queue.proofs.Answering.{slice_get-push}
+use Rattle.queue.proofs.JobAnswers.{slice_get-push}
 use Rattle.curve.specs.Known.{Known, all_known}
 use Rattle.curve.specs.Triple.{Triple, Triples}
 use Rattle.interp.specs.Answer.{Answer, Says, Wants}
 use Rattle.interp.specs.Question.{question_of}
 use Rattle.interp.specs.declared.job.Job.{Job}
-use Rattle.interp.specs.laws.Keeping.{wanted-unknown}
+use Rattle.interp.specs.laws.KnownVerdicts.{wanted-unknown}
 use Rattle.queue.specs.Jobs.{verdict_of, verdict_at}
 use Rattle.queue.specs.declared.verdict.Verdict.{Verdict}
-use Rattle.queue.specs.inside.Walking.{AreRight}
-use Rattle.queue.specs.Telling.{want_of, wants_below, NoneRefused}
+use Rattle.queue.specs.inside.Walk.{AreRight}
+use Rattle.queue.specs.FirstAnswer.{want_of, wants_below, NoneRefused}
 
 -- where all is known nothing is unknown
 pub none_unknown : (table : Triples) (list : List Triple) → 0 < length list → All (λ t. all_known table t ≡ None) list → ⊥

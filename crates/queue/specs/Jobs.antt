@@ -12,8 +12,8 @@ use Rattle.interp.specs.Rules.{Accepts}
 use Rattle.interp.specs.computed.Step.{verdict}
 use Rattle.queue.specs.declared.source.Source.{Source}
 use Rattle.queue.specs.declared.source.Source.TheVariants.{Listed, Found}
-use Rattle.queue.specs.declared.undecided.Undecided.{Undecided}
-use Rattle.queue.specs.declared.undecided.Undecided.TheVariants.{Memory, Unknown}
+use Rattle.queue.specs.declared.no_answer.Undecided.{Undecided}
+use Rattle.queue.specs.declared.no_answer.Undecided.TheVariants.{Memory, Unknown}
 
 -- the job's input is one of its transaction's
 abbrev pub HasInput : Job → Type 0

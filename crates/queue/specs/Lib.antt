@@ -1,6 +1,6 @@
 pub mod Jobs
 pub mod Early
 pub mod Ahead
-pub mod Telling
+pub mod FirstAnswer
 pub mod inside
 pub mod laws

@@ -1,4 +1,4 @@
 -- What private functions and invariants alone cite.
 pub mod ClaimedPlaces
-pub mod Pairing
-pub mod Walking
+pub mod KnownAnswers
+pub mod Walk

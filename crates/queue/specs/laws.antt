@@ -1,4 +1,4 @@
-pub mod Failing
-pub mod Lending
-pub mod Sharing
-pub mod Undecided
+pub mod FirstFailure
+pub mod LentMidstates
+pub mod SharedValues
+pub mod NoAnswer

@@ -4,7 +4,7 @@ ghost use Rattle.std.specs.Prelude.{◌≡◌, ◌≤◌, All, IfOk};
 ghost use denote.Param.Send.{IsSync};
 ghost use Rattle.queue.specs.Jobs.{verdict_at};
 ghost use Rattle.queue.specs.Ahead.{IsRight};
-ghost use Rattle.queue.specs.laws.Sharing.{IsSync-prop};
+ghost use Rattle.queue.specs.laws.SharedValues.{IsSync-prop};
 
 use crate::checks::Places;
 use crate::found::{Found, both};

@@ -3,8 +3,8 @@
 ghost use Rattle.std.specs.Prelude.{◌≡◌, ℕ, ◌<◌, ◌≤◌, [], ◌∷◌, ◌++◌, All, IfOk, IfSome, None, OnOk, length, vec_len};
 ghost use Rattle.queue.specs.Ahead.{answer_of};
 ghost use Rattle.queue.specs.Jobs.{HasInput, answers_to, known_of, questions, said};
-ghost use Rattle.queue.specs.inside.Pairing.{AreSaid, AreTheirWants, AreWanted, wanted_in};
-ghost use Rattle.queue.specs.inside.Walking.{AreRight};
+ghost use Rattle.queue.specs.inside.KnownAnswers.{AreSaid, AreTheirWants, AreWanted, wanted_in};
+ghost use Rattle.queue.specs.inside.Walk.{AreRight};
 
 use crate::checks::Places;
 use crate::crew::busy_workers;

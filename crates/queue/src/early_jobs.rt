@@ -67,7 +67,7 @@ impl<'t> Model for EarlyJobs<'t> {
 impl<'t> EarlyJobs<'t> {
     ghost use Rattle.interp.specs.Question.{Question, question_of};
     ghost use Rattle.queue.specs.Jobs.{HasInput, Spending, questions, spending, tx_at, IsThere};
-    ghost use Rattle.queue.specs.inside.Pairing.{key_of};
+    ghost use Rattle.queue.specs.inside.KnownAnswers.{key_of};
     ghost use Rattle.sighash.specs.Midstates.{AreOf};
 
     /// No input of these transactions.

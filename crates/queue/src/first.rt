@@ -2,16 +2,16 @@
 
 ghost use Rattle.std.specs.Prelude.{◌≡◌, ◌<◌, ◌≤◌, All, IfOk, Some, false, length, slice_get};
 ghost use Rattle.queue.specs.Jobs.{AreNumbered, HasInput, IsEarly, verdict_at};
-ghost use Rattle.queue.specs.Telling.{Told};
-ghost use Rattle.queue.specs.inside.Walking.{Walked};
+ghost use Rattle.queue.specs.FirstAnswer.{Told};
+ghost use Rattle.queue.specs.inside.Walk.{Walked};
 
-use crate::asked::asked_jobs;
 use crate::crew::Crew;
 use crate::found::Found;
 use crate::gate::Gate;
 use crate::jobs::JobList;
 use crate::judges::Judges;
 use crate::known_verdicts::known_answers;
+use crate::same_jobs::asked_jobs;
 use crate::verdicts::Verdicts;
 use crate::walk::{Walk, go_through, slots_of};
 use interp::Job;

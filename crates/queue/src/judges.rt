@@ -2,10 +2,10 @@
 
 ghost use Rattle.std.specs.Prelude.{◌≡◌, ◌<◌, List, All, None, Option, Some, length, IfSome};
 ghost use Rattle.curve.specs.Triple.{Triple};
-ghost use Rattle.queue.specs.Telling.{AreOfBoth};
+ghost use Rattle.queue.specs.FirstAnswer.{AreOfBoth};
 
-use crate::joining::{are_enough, joined};
-use crate::undecided::Undecided;
+use crate::branch_wants::{are_enough, joined};
+use crate::no_answer::Undecided;
 use curve::{KeptTriple, KnownSignatures, KnowsSignatures, Table};
 use wire::Memory;
 
@@ -59,7 +59,7 @@ impl Judges for Table {
 
 impl Judges for KnownSignatures {
     ghost use Rattle.queue.specs.Jobs.{told_by};
-    ghost use Rattle.queue.specs.laws.Undecided.{memory_tells};
+    ghost use Rattle.queue.specs.laws.NoAnswer.{memory_tells};
 
     type Stop = Undecided;
 

@@ -7,7 +7,7 @@ ghost use Rattle.queue.specs.Jobs.{AreNumbered, HasInput, IsEarly, verdict_at};
 ghost use Rattle.interp.specs.Answer.{Says};
 ghost use Rattle.interp.specs.computed.Step.{verdict};
 ghost use Rattle.queue.specs.Early.{AreAllKnown, AreKnown, Fits};
-ghost use Rattle.queue.specs.inside.Pairing.{Covers, IsOfSame};
+ghost use Rattle.queue.specs.inside.KnownAnswers.{Covers, IsOfSame};
 
 use crate::judges::Judges;
 use crate::verdict_index::{Index, Slot};

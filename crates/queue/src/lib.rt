@@ -1,7 +1,7 @@
 //! Script checks on several threads: the least job of a list that isn't accepted.
 #![tactic(auto)]
 
-mod asked;
+mod branch_wants;
 mod checks;
 mod claimed_places;
 mod crew;
@@ -11,17 +11,18 @@ mod first;
 mod found;
 mod gate;
 mod jobs;
-mod joining;
 mod judges;
 mod known_verdicts;
+mod no_answer;
+mod same_jobs;
 mod source;
-mod undecided;
 mod verdict;
 mod verdict_index;
 mod verdicts;
 mod walk;
 mod workers;
 
+pub use branch_wants::{MAX_WANTS, are_enough, joined};
 pub use crew::{Alone, Crew, Threaded};
 pub use early::check_early;
 pub use early_jobs::EarlyJobs;
@@ -29,9 +30,8 @@ pub use first::{Runs, first_failure};
 pub use found::{Found, Seen};
 pub use gate::{Gate, Open};
 pub use jobs::JobList;
-pub use joining::{MAX_WANTS, are_enough, joined};
 pub use judges::Judges;
+pub use no_answer::Undecided;
 pub use source::Source;
-pub use undecided::Undecided;
 pub use verdict::Verdict;
 pub use verdicts::Verdicts;

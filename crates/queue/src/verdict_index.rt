@@ -8,7 +8,7 @@ ghost use Rattle.interp.specs.Question.{Question, question_of};
 ghost use Rattle.queue.specs.Jobs.{HasInput, IsEarly, known_then, questions};
 ghost use Rattle.interp.specs.Answer.{Says};
 ghost use Rattle.interp.specs.computed.Step.{verdict};
-ghost use Rattle.queue.specs.inside.Pairing.{Covers, IsOfSame, key_of, slot_for};
+ghost use Rattle.queue.specs.inside.KnownAnswers.{Covers, IsOfSame, key_of, slot_for};
 ghost use Rattle.queue.specs.Early.{Fits};
 
 use crate::judges::Judges;

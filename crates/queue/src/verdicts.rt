@@ -28,7 +28,7 @@ impl<'t> Model for Verdicts<'t> {
     ghost use Rattle.curve.specs.Known.{coded_verdicts};
     ghost use Rattle.curve.specs.Triple.{triple_cmp, coded_triple};
     ghost use Rattle.queue.specs.Jobs.{Answered, answers_to, known_of, questions};
-    ghost use Rattle.queue.specs.inside.Pairing.{AreTheirWants};
+    ghost use Rattle.queue.specs.inside.KnownAnswers.{AreTheirWants};
 
     ghost Value = { Answered };
 
@@ -46,7 +46,7 @@ impl<'t> Verdicts<'t> {
     ghost use Rattle.interp.specs.computed.Step.{verdict};
     ghost use Rattle.queue.specs.Early.{answer_at};
     ghost use Rattle.queue.specs.Jobs.{answers_to, known_of, known_then, questions};
-    ghost use Rattle.queue.specs.inside.Pairing.{AreTheirWants};
+    ghost use Rattle.queue.specs.inside.KnownAnswers.{AreTheirWants};
 
     /// The verdicts with these answers and wants.
     pub(crate) fn of(

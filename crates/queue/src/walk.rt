@@ -1,9 +1,9 @@
 //! The caller's walk over a list, which is the answer.
 
 ghost use Rattle.std.specs.Prelude.{◌≡◌, ◌<◌, IfOk, IfSome, vec_len};
-ghost use Rattle.queue.specs.Telling.{NoneRefused};
+ghost use Rattle.queue.specs.FirstAnswer.{NoneRefused};
 ghost use Rattle.queue.specs.Ahead.{AreAccepted, AreOf, answer_of};
-ghost use Rattle.queue.specs.inside.Walking.{AreRight, Walked};
+ghost use Rattle.queue.specs.inside.Walk.{AreRight, Walked};
 
 use crate::checks::Places;
 use crate::found::Seen;
@@ -23,7 +23,7 @@ pub struct Walk {
 
 /// Goes from the first place to the first that is refused, or to the end. A place on which no verdict was found ahead is
 /// run, so that one round finds many wants.
-#[tactic(auto, unfolding(crate::specs::Telling::wants_below))]
+#[tactic(auto, unfolding(crate::specs::FirstAnswer::wants_below))]
 pub fn go_through<G: Gate, C: Places>(
     alloc: Global,
     list: &C,

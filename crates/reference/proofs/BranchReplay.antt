@@ -10,7 +10,7 @@ use Rattle.curve.specs.Triple.{Triples}
 use Rattle.rules.specs.declared.params.Params.{Params}
 use Rattle.rules.specs.Params.{at}
 use Rattle.locks.specs.MedianTime.{median_of}
-use Rattle.connect.specs.Setting.{Setting}
+use Rattle.connect.specs.BlockContext.{Setting}
 use Rattle.connect.specs.Turns.{effect}
 use Rattle.connect.specs.computed.Scripts.{connect_fault}
 use Rattle.tree.specs.Branches.{Blocks, branch, before, parent_at, block_at, blocks_at}

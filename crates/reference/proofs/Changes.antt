@@ -14,7 +14,7 @@ use Rattle.tree.specs.Branches.{Kept, Blocks, down_from, on, before, branch, pla
 use Rattle.tree.specs.State.{opening, with_mark, without_marks, with_call, with_block}
 use Rattle.tree.specs.Names.{names}
 use Rattle.tree.specs.Limits.{max_blocks}
-use Rattle.tree.specs.laws.Added.{place-bound, blocks-old, blocks-new, id_there, id_here, block_there, block_here}
+use Rattle.tree.specs.laws.AddedBlock.{place-bound, blocks-old, blocks-new, id_there, id_here, block_there, block_here}
 use Rattle.tree.specs.laws.Branches.{parent_there, parent_here}
 use Rattle.reference.specs.declared.kept_block.KeptBlock.{KeptBlock}
 use Rattle.reference.specs.declared.judgement.Judgement.{Judgement}
@@ -22,7 +22,7 @@ use Rattle.reference.specs.declared.state.Replayed.{Replayed}
 use Rattle.chain.specs.Settle.{active, on_candidate, becomes_seen, becomes_bad, settle}
 use Rattle.chain.specs.Valid.{branch_connects, first_to_fail}
 use Rattle.chain.specs.Regtest.{regtest}
-use Rattle.chain.specs.Settled.{AllKept}
+use Rattle.chain.specs.StateInvariant.{AllKept}
 use Rattle.reference.specs.inside.Replay.{IsRight, IsKeptBlock, AreKeptBlocks, AreTried, AreJudgements, blocks_before, kept_of, blocks_of, first_kept, state_of_replayed, is_flagged, places_of, judgement_in, no_judgement, is_near, is_valid, is_first, any_below, trial_on}
 use Rattle.reference.proofs.BranchReplay.{trial-zero}
 use Rattle.reference.proofs.KeptBlocks.{length-blocks, blocks-push}

@@ -8,7 +8,7 @@ use Rattle.tree.specs.Branches.{Blocks, branch, height, parent_at, block_at, id_
 use Rattle.tree.specs.Names.{names}
 use Rattle.tree.specs.laws.Branches.{branch_head, branch-genesis}
 use Rattle.tree.specs.laws.Parents.{parent-below, branch-parent}
-use Rattle.tree.specs.laws.Added.{id_there, id_here}
+use Rattle.tree.specs.laws.AddedBlock.{id_there, id_here}
 use Rattle.reference.specs.declared.kept_block.KeptBlock.{KeptBlock}
 use Rattle.reference.specs.inside.Replay.{kept_of, blocks_of, IsKeptBlock, AreKeptBlocks, block_in, blocks_in, first_kept}
 

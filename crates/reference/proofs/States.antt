@@ -125,7 +125,7 @@ module _ (params : Params) (triples : Triples) (old : Replayed) (right : IsRight
       ap not (sym (has-places old.bad.items x (omega arith))))
     where
       branch_bound : (x : ℕ) → has (branch (blocks_of old.held.items) p) x ≡ true → x ≤ length (blocks_of old.held.items)
-      branch_bound x o = Rattle.tree.specs.laws.Added.branch_within names (record { block = Rattle.tree.specs.Names.genesis; parent = 0 }) (blocks_of old.held.items) p x o
+      branch_bound x o = Rattle.tree.specs.laws.AddedBlock.branch_within names (record { block = Rattle.tree.specs.Names.genesis; parent = 0 }) (blocks_of old.held.items) p x o
 
 -- ---- what is found of each block
 

@@ -8,7 +8,7 @@ use Rattle.rules.specs.declared.params.Params.{Params}
 use Rattle.tree.specs.Branches.{Blocks, has, branch, blocks_at, place_of}
 use Rattle.tree.specs.State.{State, has_no_mark}
 use Rattle.tree.specs.Names.{names}
-use Rattle.tree.specs.laws.Added.{place-bound}
+use Rattle.tree.specs.laws.AddedBlock.{place-bound}
 use Rattle.tree.specs.laws.Marks.{bad-flagged}
 use Rattle.reference.specs.declared.kept_block.KeptBlock.{KeptBlock}
 use Rattle.reference.specs.declared.state.Replayed.{Replayed}
@@ -21,7 +21,7 @@ use Rattle.chain.specs.Settle.{active, on_candidate, becomes_bad, becomes_seen, 
 use Rattle.chain.specs.Submission.{submit_says, reply_by_reason, answer_added, outcome_of_added}
 use Rattle.chain.specs.Regtest.{regtest}
 use Rattle.reference.specs.inside.Replay.{IsRight, blocks_of, state_of_replayed, trial_on, is_first, reply_by_trial}
-use Rattle.chain.specs.laws.Settled.{active-settle, settle-blocks}
+use Rattle.chain.specs.laws.SettledState.{active-settle, settle-blocks}
 use Rattle.reference.proofs.KeptBlocks.{length-blocks}
 use Rattle.reference.proofs.BranchReplay.{trial-first, trial-reason}
 

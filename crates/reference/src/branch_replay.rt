@@ -5,7 +5,7 @@ ghost use Rattle.std.specs.FinMap as coin_map;
 ghost use Rattle.txn.specs.First.{first_broken};
 ghost use Rattle.locks.specs.MedianTime.{median_of};
 ghost use Rattle.rules.specs.Alone.{alone_rules};
-ghost use Rattle.connect.specs.Setting.{setting};
+ghost use Rattle.connect.specs.BlockContext.{setting};
 ghost use Rattle.connect.specs.Turns.{effect};
 ghost use Rattle.connect.specs.computed.Scripts.{connect_fault};
 ghost use Rattle.tree.specs.MedianTime.{time_of};

@@ -1,3 +1,3 @@
 pub mod Steps
 pub mod Blocks
-pub mod Holding
+pub mod HeldMessage

@@ -8,7 +8,7 @@ use Rattle.interp.specs.Limits.{max_ops}
 use Rattle.interp.specs.Question.{Question}
 use Rattle.interp.specs.declared.job.Job.{Job}
 use Rattle.queue.specs.Jobs.{IsWanted, verdict_at}
-use Rattle.queue.specs.Telling.{AreTheWants}
+use Rattle.queue.specs.FirstAnswer.{AreTheWants}
 
 -- the next round has the verdict on each of these signatures, and all that was known
 abbrev pub HasFound : Known → List Triple → List Known → Type 0

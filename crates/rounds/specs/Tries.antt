@@ -4,7 +4,7 @@ use Rattle.std.specs.List.{filter}
 use Rattle.std.specs.Option.{option_map}
 use Rattle.hash.specs.declared.id.Id.{Id}
 use Rattle.block.specs.declared.block.Block.{Block}
-use Rattle.block.specs.Decoding.{block_of_bytes}
+use Rattle.block.specs.BlockOfBytes.{block_of_bytes}
 use Rattle.curve.specs.Triple.{Triples}
 use Rattle.tree.specs.Branches.{on, place_of, places}
 use Rattle.tree.specs.Names.{names}

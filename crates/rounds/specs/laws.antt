@@ -1,7 +1,7 @@
 -- What holds of the definitions.
 pub mod Inquiry
 pub mod Table
-pub mod Asking
+pub mod Questions
 pub mod Scripts
 pub mod Rounds
 pub mod Jobs

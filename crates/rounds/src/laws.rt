@@ -8,7 +8,7 @@ ghost use Rattle.interp.specs.Question.{Question};
 ghost use Rattle.interp.specs.declared.job.Job.{Job};
 ghost use Rattle.coins.specs.Coins.{Coins};
 ghost use Rattle.connect.specs.Scripts.{AreWantedByBlock};
-ghost use Rattle.connect.specs.Setting.{Setting};
+ghost use Rattle.connect.specs.BlockContext.{Setting};
 ghost use Rattle.chain.specs.declared.command.Command.{Command};
 ghost use Rattle.activate.specs.CoreState.{CoreState};
 ghost use Rattle.activate.specs.Wants.{AreWantedByStep};

@@ -1,3 +1,3 @@
 -- What private clauses and invariants alone cite.
 pub mod Coinbase
-pub mod Making
+pub mod DefinedBlocks

@@ -4,7 +4,7 @@ use crate::complaint::Complaint;
 use crate::definitions::Definitions;
 use crate::fault::{LineFault, ScenarioFault};
 use crate::line::{Line, U64, bytes, is_name, number};
-use crate::spelling::no_command;
+use crate::line_forms::no_command;
 use block::GENESIS_TIME;
 use hash::Id;
 use std::alloc::Global;

@@ -3,14 +3,14 @@
 ghost use Rattle.std.specs.Prelude.{◌≤◌, length, OnOk};
 
 use crate::complaint::Complaint;
+use crate::defined_blocks::{Named, genesis, made};
 use crate::draft::Draft;
 use crate::fault::{LineFault, ScenarioFault};
 use crate::known::Known;
 use crate::label::Label;
 use crate::line::{Line, U8, U32, U64, bytes, id, is_id_long, is_name, number};
-use crate::making::{Named, genesis, made};
+use crate::line_forms::no_definition;
 use crate::recipe::Recipe;
-use crate::spelling::no_definition;
 use crate::valid_signature::{ValidSignature, add_valid_signature};
 use curve::Table;
 use hash::Id;

@@ -4,12 +4,12 @@
 pub mod blocks;
 pub mod branch;
 pub mod fault;
-pub mod filling;
 pub mod hoard;
 pub mod lists;
 pub mod payments;
+pub mod random_bytes;
 pub mod scripts;
-pub mod signed;
+pub mod signed_transaction;
 pub mod spends;
 pub mod start;
 

@@ -3,4 +3,4 @@ pub mod Shape
 pub mod Sums
 pub mod Checks
 pub mod Parts
-pub mod Spelling
+pub mod NumberBytes

@@ -9,7 +9,7 @@ use Rattle.std.proofs.lemmas.List.{append-nil, take_more}
 use Rattle.json.specs.Json.{Members}
 use Rattle.hash.specs.declared.id.Id.{Id}
 use Rattle.block.specs.declared.block.Block.{Block}
-use Rattle.block.specs.Decoding.{block_of_bytes}
+use Rattle.block.specs.BlockOfBytes.{block_of_bytes}
 use Rattle.block.specs.Grammar.{header}
 use Rattle.block.specs.Identity.{id_of}
 use Rattle.chain.specs.declared.command.Command.TheVariants as command

@@ -1,5 +1,5 @@
-mod Answering
+mod AnswerLines
 mod Brought
-mod Going
+mod LogCalls
 mod Steps
 mod Verdicts

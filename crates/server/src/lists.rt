@@ -7,7 +7,7 @@ ghost use Rattle.server.specs.inside.Lists.{AreSteps, IsTextOf, text_json};
 ghost use Rattle.server.specs.inside.Answers.{IsJournalTold, TellsSteps};
 
 use crate::answers::refused;
-use crate::spelled::reply_text;
+use crate::texts::reply_text;
 use crate::turn::Blank;
 use crate::words::Facts;
 use journal::{Asked, block_of};

@@ -1,3 +1,3 @@
-pub mod Closing
-pub mod Joining
-pub mod Refusing
+pub mod ClosingTokens
+pub mod TokenLists
+pub mod Refusals

@@ -57,7 +57,7 @@ impl Object {
 }
 
 /// The line of an answer, behind what the room holds. A reply whose line fits into the room takes no memory.
-#[tactic(auto, using(crate::proofs::Closing::closed))]
+#[tactic(auto, using(crate::proofs::ClosingTokens::closed))]
 pub fn answer_line(
     alloc: Global,
     room: Vec<u8>,
@@ -75,7 +75,7 @@ pub fn answer_line(
 }
 
 /// The line that says how the node was opened, behind what the room holds.
-#[tactic(auto, using(crate::proofs::Closing::closed))]
+#[tactic(auto, using(crate::proofs::ClosingTokens::closed))]
 pub fn info_line(room: Vec<u8>, id: &RequestId, info: &Info<'_>) -> Result<Vec<u8>, AllocError>
     ensures { let answered = response (codes "result") id.now (info_members info.now) in
         IfOk result (λ line. line.items ≡ room.items ++ line_of answered) }
@@ -88,7 +88,7 @@ pub fn info_line(room: Vec<u8>, id: &RequestId, info: &Info<'_>) -> Result<Vec<u
 }
 
 /// The line of a refusal, behind what the room holds.
-#[tactic(auto, using(crate::proofs::Closing::closed))]
+#[tactic(auto, using(crate::proofs::ClosingTokens::closed))]
 pub fn refusal_line(room: Vec<u8>, id: &RequestId, refusal: Refusal) -> Result<Vec<u8>, AllocError>
     ensures { let answered = response (codes "error") id.now (refusal_members refusal) in
         IfOk result (λ line. line.items ≡ room.items ++ line_of answered) }

@@ -9,13 +9,13 @@ use Rattle.sha2.specs.declared.Sha256.{Sha256}
 use Rattle.sha2.specs.Hashers.{Holds256}
 use Rattle.hash.specs.Double.{double_sha}
 use Rattle.wire.specs.Grammar.{number, signed32, counted_list}
-use Rattle.wire.specs.Spelling.{compact_size}
+use Rattle.wire.specs.Numbers.{compact_size}
 use Rattle.txn.specs.declared.input.TxIn.{TxIn}
 use Rattle.txn.specs.declared.tx.Tx.{Tx}
 use Rattle.txn.specs.Grammar.{input, output, transaction}
 use Rattle.sighash.specs.Kind.{frees_sequences, is_alone, is_none, is_single}
 use Rattle.sighash.specs.Digest.{own_input, other_input, signed_inputs, signed_copy, digest_of}
-use Rattle.sighash.specs.inside.Beginning.{among, beginning, AreMidstates}
+use Rattle.sighash.specs.inside.MessageFront.{among, beginning, AreMidstates}
 use Rattle.sighash.proofs.Inputs.{among_is, length-among}
 
 -- ---- states

@@ -3,12 +3,12 @@ use Rattle.std.proofs.Common.{◌≡◌, ℕ, zero, suc, ◌+◌, ◌<◌, true,
 use Rattle.std.specs.List.{flat_map}
 use Rattle.std.proofs.lemmas.Grind.{flat_map-append}
 use Rattle.std.proofs.lemmas.List.{append-nil, length-append, length-map, length-take, length-drop, drop-drop}
-use Rattle.wire.specs.Spelling.{compact_size}
+use Rattle.wire.specs.Numbers.{compact_size}
 use Rattle.txn.specs.declared.input.TxIn.{TxIn}
 use Rattle.txn.specs.Grammar.{input}
 use Rattle.sighash.specs.Kind.{is_alone}
 use Rattle.sighash.specs.Digest.{own_input, other_input, signed_inputs}
-use Rattle.sighash.specs.inside.Beginning.{among}
+use Rattle.sighash.specs.inside.MessageFront.{among}
 
 one_item : {X : Type 0} (xs : List X) (x : X) → length xs ≡ 1 → x ≡ get_or xs 0 x → xs ≡ x ∷ []
 one_item [] x len is = absurd (omega (arith, len))

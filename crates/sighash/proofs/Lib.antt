@@ -3,4 +3,4 @@ pub mod Inputs
 pub mod Lists
 pub mod Outputs
 pub mod Pieces
-pub mod Spliced
+pub mod Splices

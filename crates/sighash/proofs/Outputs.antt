@@ -2,7 +2,7 @@
 use Rattle.std.proofs.Common.{◌≡◌, ℕ, ◌+◌, ◌<◌, List, [], ◌∷◌, ◌++◌, length, map, take, get_or, refl, sym, ap, ◌∙◌}
 use Rattle.std.specs.List.{flat_map}
 use Rattle.txn.specs.declared.output.TxOut.{TxOut}
-use Rattle.wire.specs.Spelling.{compact_size}
+use Rattle.wire.specs.Numbers.{compact_size}
 use Rattle.txn.specs.Grammar.{output}
 use Rattle.sighash.specs.Digest.{blank_output}
 use Rattle.sighash.proofs.Lists.{flat-next}

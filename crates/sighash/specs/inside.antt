@@ -1,4 +1,4 @@
 -- What private functions and invariants alone cite.
 pub mod Ahead
-pub mod Beginning
+pub mod MessageFront
 pub mod Flat

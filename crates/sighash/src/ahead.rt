@@ -4,10 +4,10 @@ ghost use Rattle.std.specs.Prelude.{◌≡◌, ◌≤◌, ◌<◌, ◌++◌, ◌
 ghost use Rattle.lanes.specs.Lane.{lanes};
 ghost use Rattle.lanes.specs.Midstate.{IsAfter, part};
 ghost use Rattle.sighash.specs.inside.Ahead.{AreDigests, AreGroups, AreOfLength, IsBegun, code_at};
-ghost use Rattle.sighash.specs.inside.Beginning.{beginning};
+ghost use Rattle.sighash.specs.inside.MessageFront.{beginning};
 ghost use Rattle.sighash.specs.inside.Flat.{with_script};
 
-use crate::expected::expected_code;
+use crate::first_code::expected_code;
 use crate::flat::{Flat, put_script};
 use crate::spent::SpentScripts;
 use hash::Id;

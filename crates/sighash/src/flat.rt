@@ -5,10 +5,10 @@ ghost use Rattle.std.specs.List.{flat_map};
 ghost use Rattle.wire.specs.Grammar.{counted_list, sized_bytes};
 ghost use Rattle.txn.specs.Grammar as grammar;
 ghost use Rattle.sighash.specs.Digest.{other_input};
-ghost use Rattle.sighash.specs.inside.Beginning.{beginning};
+ghost use Rattle.sighash.specs.inside.MessageFront.{beginning};
 ghost use Rattle.sighash.specs.inside.Flat.{IsFlat, IsFlat-prop};
 
-use crate::feeding::after_id;
+use crate::hasher_input::after_id;
 use crate::midstates::ALL;
 use std::alloc::Global;
 use txn::{OutPoint, Tx, TxIn, TxOut};
@@ -54,7 +54,7 @@ impl<'a> Flat<'a> {
 }
 
 /// Writes an input without a script.
-#[tactic(auto, using(wire::specs::laws::Writing::extending))]
+#[tactic(auto, using(wire::specs::laws::Extension::extending))]
 fn put_blank(out: &mut Vec<u8>, prev: OutPoint, sequence: u32) -> Result<(), Memory>
     ensures written { OnOk result (out.new.items ≡ out.old.items ++ grammar.input.spell (record {
       prev = prev;
@@ -87,7 +87,7 @@ fn put_blanks(out: &mut Vec<u8>, inputs: &[TxIn]) -> Result<(), Memory>
 }
 
 /// Writes a script after its length.
-#[tactic(auto, using(wire::specs::laws::Writing::extending))]
+#[tactic(auto, using(wire::specs::laws::Extension::extending))]
 pub fn put_script(out: &mut Vec<u8>, script: &[u8]) -> Result<(), Memory>
     ensures { OnOk result (out.new.items ≡ out.old.items ++ sized_bytes.spell script.now) }
 {
@@ -97,7 +97,7 @@ pub fn put_script(out: &mut Vec<u8>, script: &[u8]) -> Result<(), Memory>
 }
 
 /// Writes an output.
-#[tactic(auto, using(wire::specs::laws::Writing::extending))]
+#[tactic(auto, using(wire::specs::laws::Extension::extending))]
 fn put_output(out: &mut Vec<u8>, output: &TxOut) -> Result<(), Memory>
     ensures { OnOk result (out.new.items ≡ out.old.items ++ grammar.output.spell output.now) }
 {
@@ -106,7 +106,7 @@ fn put_output(out: &mut Vec<u8>, output: &TxOut) -> Result<(), Memory>
 }
 
 /// Writes outputs after their count.
-#[tactic(auto, using(wire::specs::laws::Writing::extending))]
+#[tactic(auto, using(wire::specs::laws::Extension::extending))]
 fn put_outputs(out: &mut Vec<u8>, outputs: &[TxOut]) -> Result<(), Memory>
     ensures { OnOk result (out.new.items
         ≡ out.old.items ++ (counted_list grammar.output).spell outputs.now) }

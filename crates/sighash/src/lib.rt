@@ -2,17 +2,17 @@
 #![tactic(auto)]
 
 mod ahead;
-mod expected;
-mod feeding;
+mod code_pieces;
+mod first_code;
 mod flat;
-mod joined;
+mod hasher_input;
 mod kind;
 mod midstates;
-mod precomputed;
-mod signing;
+mod precomputed_tx;
+mod signature_hash;
 mod spent;
 
 pub use midstates::Midstates;
-pub use precomputed::PrecomputedTx;
-pub use signing::digest;
+pub use precomputed_tx::PrecomputedTx;
+pub use signature_hash::digest;
 pub use spent::SpentScripts;

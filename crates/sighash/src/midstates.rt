@@ -6,20 +6,20 @@ ghost use Rattle.sha2.specs.Hashers.{Holds256};
 ghost use Rattle.script.specs.Removal.{bytes_of};
 ghost use Rattle.sighash.specs.Digest.{digest_of};
 ghost use Rattle.sighash.specs.inside.Ahead.{AreGroups, AreGroups-prop};
-ghost use Rattle.sighash.specs.inside.Beginning.{beginning, AreMidstates, AreMidstates-prop};
+ghost use Rattle.sighash.specs.inside.MessageFront.{beginning, AreMidstates, AreMidstates-prop};
 
 use crate::ahead::{Group, groups};
-use crate::feeding::{feed_among, feed_others};
-use crate::joined::are_code;
+use crate::code_pieces::are_code;
+use crate::hasher_input::{feed_among, feed_others};
 use crate::kind::signs_inputs;
-use crate::signing::digest;
+use crate::signature_hash::digest;
 use crate::spent::SpentScripts;
 use hash::finish;
 use lanes::LANES;
 use sha2::{Digest, Sha256};
 use std::alloc::Global;
 use txn::Tx;
-use txn::feeding::{feed_count, feed_outputs};
+use txn::hasher_input::{feed_count, feed_outputs};
 use wire::Memory;
 
 /// So many inputs are between one state and the next.

@@ -24,7 +24,7 @@ use Rattle.tree.specs.inside.Nodes.{IsNode, IsRight, AreNodes, AreIds}
 use Rattle.tree.specs.inside.Leaves.{AreInOrder, AreLeaves}
 use Rattle.tree.specs.laws.Sets.{filter_agree}
 use Rattle.tree.specs.laws.Branches.{parent_there, height_there}
-use Rattle.tree.specs.laws.Added.{block_there, id_there, id_here, blocks-old, usable_there, usable_new}
+use Rattle.tree.specs.laws.AddedBlock.{block_there, id_there, id_here, blocks-old, usable_there, usable_new}
 use Rattle.tree.specs.laws.Ranks.{rank-none}
 use Rattle.tree.specs.laws.Leaves.{leaves_grown}
 use Rattle.tree.proofs.Views.{kept, length-blocks, blocks-push, has_where-above}

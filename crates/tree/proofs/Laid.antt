@@ -14,7 +14,7 @@ use Rattle.tree.specs.inside.Nodes.{AreRemarked, AreUsable, IsRight}
 use Rattle.tree.specs.laws.Marks.{usable-genesis}
 use Rattle.tree.proofs.Views.{has-where, length-blocks, where_agree, where_joined}
 use Rattle.tree.proofs.Changes.{set_kept, set_joined}
-use Rattle.tree.proofs.Cleared.{where_cleared}
+use Rattle.tree.proofs.ClearedMarks.{where_cleared}
 
 -- marks that agree on which blocks are invalid leave the same branches usable
 usable_same : (s : State Block) (ms ls : List Mark) (p : ℕ) → places_where (λ m. m.bad) ls ≡ places_where (λ m. m.bad) ms → has_no_mark (laid s ls) p ≡ has_no_mark (laid s ms) p

@@ -1,9 +1,9 @@
-pub mod Copied
+pub mod SameBlocks
 mod Changes
-mod Cleared
+mod ClearedMarks
 mod Grown
 mod Laid
-mod Marked
-mod Opened
+mod MarkChanges
+mod GenesisTree
 mod Times
 mod Views

@@ -2,7 +2,7 @@
 -- order of arrival; genesis has place 0.
 use Rattle.std.specs.Prelude.{ℕ, zero, suc, ◌==◌, Bool, if◌then◌else◌, List, [], ◌∷◌, length, map, Option, None, Some}
 use Rattle.std.specs.List.{list_any}
-use Rattle.tree.specs.Naming.{Naming}
+use Rattle.tree.specs.BlockNames.{Naming}
 
 -- a kept block, and the place of its parent
 pub record Kept (B : Type 0) : Type 0 where

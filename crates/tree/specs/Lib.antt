@@ -2,7 +2,7 @@ pub mod Branches
 pub mod Limits
 pub mod MedianTime
 pub mod Names
-pub mod Naming
+pub mod BlockNames
 pub mod Nodes
 pub mod Sound
 pub mod State

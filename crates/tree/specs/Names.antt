@@ -5,8 +5,8 @@ use Rattle.hash.specs.Id.{id_cmp}
 use Rattle.block.specs.declared.block.Block.{Block}
 use Rattle.block.specs.Genesis as block
 use Rattle.block.specs.Identity.{id_of}
-use Rattle.block.specs.Stored.{genesis_alone}
-use Rattle.tree.specs.Naming.{Naming}
+use Rattle.block.specs.StoredBlock.{genesis_alone}
+use Rattle.tree.specs.BlockNames.{Naming}
 
 -- regtest's, without its transaction, which makes no coin; nothing is ever asked of it, so it isn't kept
 abbrev pub genesis : Block

@@ -5,7 +5,7 @@ use Rattle.hash.specs.declared.id.Id.{Id}
 use Rattle.tree.specs.declared.tip.Status.{Status}
 use Rattle.tree.specs.declared.tip.Tip.{Tip}
 use Rattle.tree.specs.declared.tip.Status.TheVariants.{Active, Invalid, ValidFork, ValidHeaders}
-use Rattle.tree.specs.Naming.{Naming}
+use Rattle.tree.specs.BlockNames.{Naming}
 use Rattle.tree.specs.Branches.{Blocks, has, places, branch, on, height, id_at}
 use Rattle.tree.specs.State.{State, has_no_mark}
 

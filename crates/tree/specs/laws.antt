@@ -1,6 +1,6 @@
 -- Theorems on the tree, for any blocks.
 pub mod Above
-pub mod Added
+pub mod AddedBlock
 pub mod Best
 pub mod Branches
 pub mod Calls

@@ -2,7 +2,7 @@
 #![tactic(auto)]
 
 mod branch;
-mod copying;
+mod copies;
 mod genesis;
 mod growth;
 pub mod laws;

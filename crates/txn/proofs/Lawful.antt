@@ -4,7 +4,7 @@ use Rattle.std.specs.List.{All}
 use Rattle.std.proofs.lemmas.Grind.{take_at_read}
 use Rattle.std.proofs.lemmas.List.{take_all}
 use Rattle.std.proofs.lemmas.List.Elements.{All-push, recursion_from_All}
-use Rattle.wire.specs.Spelling.{limit}
+use Rattle.wire.specs.Numbers.{limit}
 use Rattle.wire.specs.Grammar.{Grammar, counted_list}
 
 module _ {A : Type 0} (part : Grammar A) (script : A → List ℕ) where

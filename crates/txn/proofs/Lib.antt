@@ -2,5 +2,5 @@ pub mod Coinbase
 pub mod Flags
 pub mod Lawful
 pub mod Marks
-pub mod Passed
-pub mod Sorted
+pub mod RuleOrder
+pub mod OutpointOrder

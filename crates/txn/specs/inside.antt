@@ -1,4 +1,4 @@
 -- What private functions and invariants alone cite.
 pub mod Marks
 pub mod Room
-pub mod Stored
+pub mod ScriptBytes

@@ -1,5 +1,5 @@
 -- What holds of the definitions.
-pub mod Reading
+pub mod Reader
 pub mod Check
 pub mod Equality
 pub mod First

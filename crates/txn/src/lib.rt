@@ -1,29 +1,29 @@
 //! Transactions: their parts, their bytes, their ids, and the reasons for which a block is refused.
 #![tactic(auto)]
 
-mod checking;
+mod check_transaction;
+mod decode;
+mod encode;
 mod fault;
-pub mod feeding;
+pub mod hasher_input;
 mod input;
 pub mod laws;
 mod many_ids;
 mod outpoint;
 mod output;
-mod reading;
 mod reason;
 mod script;
 pub mod sequence;
 mod tx;
-mod writing;
 
-pub use checking::{MAX_COINBASE_SCRIPT, MAX_MONEY, MIN_COINBASE_SCRIPT, check};
+pub use check_transaction::{MAX_COINBASE_SCRIPT, MAX_MONEY, MIN_COINBASE_SCRIPT, check};
+pub use decode::read;
+pub use encode::write;
 pub use fault::TxFault;
 pub use input::{Inputs, TxIn};
 pub use many_ids::ids;
 pub use outpoint::OutPoint;
 pub use output::{Outputs, TxOut};
-pub use reading::read;
 pub use reason::Reason;
 pub use script::Script;
 pub use tx::{LOCKTIME_THRESHOLD, Tx};
-pub use writing::write;

@@ -4,8 +4,8 @@ ghost use Rattle.std.specs.Prelude.{◌≡◌, ◌≤◌, ◌++◌, IfOk, length
 ghost use Rattle.txn.specs.Identity.{ids_of};
 ghost use Rattle.txn.specs.inside.Marks.{AreMarks, lanes};
 
+use crate::encode::write;
 use crate::tx::Tx;
-use crate::writing::write;
 use hash::Id;
 use lanes::{LANES, double_sha_many};
 use std::alloc::Global;

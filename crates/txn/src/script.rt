@@ -53,7 +53,7 @@ impl Short {
 
 impl Model for Script {
     ghost use Rattle.std.specs.Prelude.{List, ℕ};
-    ghost use Rattle.txn.specs.inside.Stored.{bytes_of};
+    ghost use Rattle.txn.specs.inside.ScriptBytes.{bytes_of};
 
     ghost Value = { List ℕ };
 

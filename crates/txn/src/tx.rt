@@ -4,7 +4,7 @@ ghost use Rattle.std.specs.Prelude.{◌≡◌, IfOk, IsTrue, ◌↔◌};
 ghost use Rattle.txn.specs.Coinbase.{IsCoinbase, is_coinbase};
 ghost use Rattle.txn.specs.Identity.{id_of};
 
-use crate::feeding::feed_tx;
+use crate::hasher_input::feed_tx;
 use crate::input::Inputs;
 use crate::output::Outputs;
 use hash::{Id, finish};

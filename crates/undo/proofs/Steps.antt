@@ -12,7 +12,7 @@ use Rattle.txn.specs.declared.output.TxOut.{TxOut}
 use Rattle.coins.specs.declared.coin.Coin.{Coin}
 use Rattle.coins.specs.Coins.{Coins, Layer, same}
 use Rattle.undo.specs.Effect.{coin_of, without, with_coins, coins_at}
-use Rattle.undo.specs.laws.Reverting.{AreCoins, AreNew}
+use Rattle.undo.specs.laws.Reversal.{AreCoins, AreNew}
 use Rattle.undo.specs.laws.Effects.{coins_next, new_next, other_kept}
 
 -- the item at a place begins the rest

@@ -1,2 +1,2 @@
 -- What clauses of private functions and invariants alone speak of.
-pub mod Packed
+pub mod PackedCoins

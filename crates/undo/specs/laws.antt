@@ -1,3 +1,3 @@
 pub mod Effects
-pub mod Reverting
-pub mod Undoing
+pub mod Reversal
+pub mod RoundTrip

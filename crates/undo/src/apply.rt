@@ -9,7 +9,7 @@ ghost use Rattle.script.specs.Kinds.{is_unspendable};
 ghost use Rattle.coins.specs.Coins.{Coins, same};
 ghost use Rattle.coins.specs.Entries.{over, IsSound};
 ghost use Rattle.undo.specs.Effect.{spends, spendable, coin_of, makes, without, with_coins, after, coins_at, spent_coins, IsApplicable};
-ghost use Rattle.undo.specs.laws.Reverting.{AreNew};
+ghost use Rattle.undo.specs.laws.Reversal.{AreNew};
 
 use crate::block_undo::Spent;
 use coins::{Base, Cache, Coin, Writes};

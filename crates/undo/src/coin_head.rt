@@ -1,7 +1,7 @@
 //! Coins without their scripts.
 
 ghost use Rattle.std.specs.Prelude.{◌≡◌};
-ghost use Rattle.undo.specs.inside.Packed.{head_of};
+ghost use Rattle.undo.specs.inside.PackedCoins.{head_of};
 
 use coins::Coin;
 

@@ -12,7 +12,7 @@ ghost use Rattle.txn.specs.Check.{is_coinbase};
 ghost use Rattle.script.specs.Kinds.{is_unspendable};
 ghost use Rattle.coins.specs.Coins.{Coins, same};
 ghost use Rattle.undo.specs.Effect.{spends, outpoint_at, coin_of, after, spent_coins, IsApplicable};
-ghost use Rattle.undo.specs.laws.Reverting.{coins_before};
+ghost use Rattle.undo.specs.laws.Reversal.{coins_before};
 
 /// What a transaction spends is gone after it.
 pub fn what_is_spent_is_gone()

@@ -20,7 +20,7 @@ pub(crate) struct PackedCoins {
 impl Model for PackedCoins {
     ghost use Rattle.std.specs.Prelude.{List};
     ghost use Rattle.coins.specs.declared.coin.Coin.{Coin};
-    ghost use Rattle.undo.specs.inside.Packed.{packed_coins, AreWhole};
+    ghost use Rattle.undo.specs.inside.PackedCoins.{packed_coins, AreWhole};
 
     ghost Value = { List Coin };
 
@@ -95,7 +95,7 @@ pub(crate) struct CoinReader<'a> {
 impl<'a> Model for CoinReader<'a> {
     ghost use Rattle.std.specs.Prelude.{List};
     ghost use Rattle.coins.specs.declared.coin.Coin.{Coin};
-    ghost use Rattle.undo.specs.inside.Packed.{packed_coins, AreWhole};
+    ghost use Rattle.undo.specs.inside.PackedCoins.{packed_coins, AreWhole};
 
     ghost Value = { List Coin };
 

@@ -46,7 +46,7 @@ pub(crate) struct PackedTxs {
 impl Model for PackedTxs {
     ghost use Rattle.std.specs.Prelude.{◌≡◌, List, length, sum};
     ghost use Rattle.coins.specs.declared.coin.Coin.{Coin};
-    ghost use Rattle.undo.specs.inside.Packed.{grouped};
+    ghost use Rattle.undo.specs.inside.PackedCoins.{grouped};
 
     ghost Value = { List (List Coin) };
 

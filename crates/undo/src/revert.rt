@@ -9,7 +9,7 @@ ghost use Rattle.script.specs.Kinds.{is_unspendable};
 ghost use Rattle.coins.specs.Coins.{Coins};
 ghost use Rattle.coins.specs.Entries.{over, IsSound};
 ghost use Rattle.undo.specs.Effect.{spends, spendable, without, with_coins, IsApplied};
-ghost use Rattle.undo.specs.laws.Reverting.{coins_before, IsRevertible, AreCoins, AreNew};
+ghost use Rattle.undo.specs.laws.Reversal.{coins_before, IsRevertible, AreCoins, AreNew};
 
 use crate::block_undo::Spent;
 use coins::{Base, Cache, Coin, Writes};

@@ -1,3 +1,3 @@
-pub mod Adding
+pub mod AddedEntry
 pub mod Beginnings
 pub mod Turns

@@ -1,4 +1,4 @@
-pub mod Beginning
+pub mod HistoryPrefix
 pub mod NextPublications
 pub mod Origin
 pub mod Rule

@@ -10,7 +10,7 @@ ghost use Rattle.view.specs.ViewState.{ViewState, IsExact, IsInfo, after_publica
 ghost use Rattle.view.specs.declared.chain_info.ChainInfo.{ChainInfo};
 ghost use Rattle.view.specs.declared.publication.Publication.{Publication};
 
-use crate::naming::Naming;
+use crate::history_name::Naming;
 use crate::note::Note;
 use crate::publishers::{ViewReader, ViewWriter};
 

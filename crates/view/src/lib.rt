@@ -3,10 +3,10 @@
 
 mod chain_info;
 mod growth;
+mod history_name;
 mod history_view;
 mod hub;
 pub mod laws;
-mod naming;
 mod note;
 mod publication;
 mod publishers;
@@ -16,9 +16,9 @@ mod shared_entry;
 
 pub use chain_info::{ChainInfo, Tips};
 pub use growth::reserve_one;
+pub use history_name::Naming;
 pub use history_view::View;
 pub use hub::Hub;
-pub use naming::Naming;
 pub use note::{EntryCount, HistoryRule, Note};
 pub use publication::Publication;
 pub use publishers::{

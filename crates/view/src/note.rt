@@ -2,7 +2,7 @@
 
 ghost use Rattle.std.specs.Prelude.{◌≡◌, ◌⊎◌, ◌<◌, ◌^◌, ◌++◌, ◌∷◌, [], length, MatchBool};
 ghost use mathlib.Core.List.{IsPrefix};
-ghost use Rattle.view.specs.Beginning.{count_of};
+ghost use Rattle.view.specs.HistoryPrefix.{count_of};
 ghost use Rattle.view.specs.inside.NextEntry.{IsShorter};
 
 use chain::Entry;
@@ -15,7 +15,7 @@ pub struct HistoryRule;
 impl Rule<Entry, u64> for HistoryRule {
     ghost use Rattle.std.specs.Prelude.{[]};
     ghost use base.Fml.{ftrue};
-    ghost use Rattle.view.specs.Beginning.{Counts};
+    ghost use Rattle.view.specs.HistoryPrefix.{Counts};
 
     ghost holds = { λ cells log. Counts cells log };
 
@@ -68,7 +68,7 @@ pub struct Note {
 
 impl Model for Note {
     ghost use Rattle.std.specs.Prelude.{◌≡◌, length};
-    ghost use Rattle.view.specs.Beginning.{Beginning};
+    ghost use Rattle.view.specs.HistoryPrefix.{Beginning};
 
     ghost Value = { Beginning };
 

@@ -2,7 +2,7 @@
 
 ghost use Rattle.std.specs.Prelude.{◌≡◌, ◌++◌, ◌∷◌, [], IfSome, IfOk, IfErr};
 ghost use Rattle.std.specs.Arc.{arc_value};
-ghost use Rattle.view.specs.Beginning.{count_of};
+ghost use Rattle.view.specs.HistoryPrefix.{count_of};
 ghost use Rattle.view.specs.inside.NextEntry.{IsNoPlace};
 
 use crate::chain_info::ChainInfo;

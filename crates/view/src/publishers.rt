@@ -5,8 +5,8 @@ ghost use mathlib.Core.List.{IsPrefix};
 ghost use Rattle.view.specs.ViewState.{IsExact, after_publications};
 ghost use Rattle.view.specs.NextPublications.{AllFollow};
 
+use crate::history_name::Naming;
 use crate::history_view::View;
-use crate::naming::Naming;
 use crate::publication::Publication;
 use crate::rule::{Turning, ViewRule};
 use left_right::reader::{Reader, Reading};

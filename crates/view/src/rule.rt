@@ -1,7 +1,7 @@
 //! The rule of what is published, and the step that keeps it.
 
+use crate::history_name::Naming;
 use crate::history_view::View;
-use crate::naming::Naming;
 use crossbeam_utils::rule::{Outcome, Protocol};
 use std::marker::PhantomData;
 

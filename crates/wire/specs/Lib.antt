@@ -1,4 +1,4 @@
-pub mod Spelling
+pub mod Numbers
 pub mod Grammar
 pub mod computed
 pub mod laws

@@ -1,5 +1,5 @@
 -- What holds of the definitions.
-pub mod Reading
+pub mod Reader
 pub mod Counts
 pub mod Loop
-pub mod Writing
+pub mod Extension

@@ -1,7 +1,7 @@
 //! The spelling of counts.
 
 ghost use Rattle.std.specs.Prelude.{◌≡◌};
-ghost use Rattle.wire.specs.Spelling.{compact_size};
+ghost use Rattle.wire.specs.Numbers.{compact_size};
 
 use std::marker::Model;
 
@@ -25,7 +25,7 @@ impl Model for CompactSize {
 
 impl CompactSize {
     /// The spelling of this count, of which the longest form has the lowest 64 bits.
-    #[tactic(auto, unfolding(crate::specs::Spelling::compact_size))]
+    #[tactic(auto, unfolding(crate::specs::Numbers::compact_size))]
     pub fn of(n: u128) -> CompactSize
         ensures { result ≡ compact_size n }
     {

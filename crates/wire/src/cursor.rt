@@ -3,7 +3,7 @@
 ghost use Rattle.std.specs.Prelude.{◌≡◌, ℕ, ◌≤◌, ◌<◌, ◌/◌, min, ◌++◌, List, length, Err, IfOk, IfErr, OnErr, IsOkAnd};
 ghost use Rattle.wire.specs.declared.fault.WireFault.{WireFault};
 ghost use Rattle.wire.specs.Grammar.{IsBytes, piece, number, signed32, signed64, count};
-ghost use Rattle.wire.specs.computed.Reading.{Reads, number_at, i32_at, i64_at, piece_at, compact_at, long_at};
+ghost use Rattle.wire.specs.computed.Reader.{Reads, number_at, i32_at, i64_at, piece_at, compact_at, long_at};
 
 use crate::fault::WireFault;
 use byteorder::{ByteOrder, LittleEndian};
@@ -124,7 +124,7 @@ impl<'a> Cursor<'a> {
         self.count()
     }
 
-    #[tactic(auto, unfolding(crate::specs::computed::Reading::compact_at, crate::specs::computed::Reading::long_at))]
+    #[tactic(auto, unfolding(crate::specs::computed::Reader::compact_at, crate::specs::computed::Reader::long_at))]
     fn count(&mut self) -> Result<u64, WireFault>
         ensures { Reads (λ n. n) result self.old self.new (compact_at self.old) }
     {
@@ -143,7 +143,7 @@ impl<'a> Cursor<'a> {
     }
 
     /// A count in the long form of `len` bytes, which is for those from `least` on.
-    #[tactic(auto, unfolding(crate::specs::computed::Reading::long_at))]
+    #[tactic(auto, unfolding(crate::specs::computed::Reader::long_at))]
     fn long(&mut self, least: u64, len: usize) -> Result<u64, WireFault>
         requires { (1 ≤ len) × (len ≤ 8) }
         ensures { Reads (λ n. n) result self.old self.new (long_at least len self.old) }

@@ -3,15 +3,15 @@
 
 mod compact_size;
 mod cursor;
+mod encode;
 mod fault;
 pub mod laws;
 mod memory;
 mod parts;
-mod writing;
 
 pub use compact_size::CompactSize;
 pub use cursor::{Cursor, LIMIT, in_range};
+pub use encode::put_compact;
 pub use fault::WireFault;
 pub use memory::Memory;
 pub use parts::Parts;
-pub use writing::put_compact;

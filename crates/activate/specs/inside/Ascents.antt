@@ -14,7 +14,7 @@ use Rattle.activate.specs.Lookups.{undo_at}
 use Rattle.activate.specs.Wants.{AreWantedAt}
 use Rattle.curve.specs.Known.{Known}
 use Rattle.curve.specs.Triple.{Triple}
-use Rattle.queue.specs.Telling.{AreOfBoth}
+use Rattle.queue.specs.FirstAnswer.{AreOfBoth}
 use Rattle.rules.specs.declared.params.Params.{Params}
 
 -- the highest of these places above the fork f, or f where there is none

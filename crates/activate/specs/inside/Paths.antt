@@ -5,7 +5,7 @@ use Rattle.hash.specs.declared.id.Id.{Id}
 use Rattle.block.specs.declared.block.Block.{Block}
 use Rattle.coins.specs.Changes.{AreChanges, after_changes}
 use Rattle.coins.specs.Coins.{Coins}
-use Rattle.connect.specs.Setting.{Setting}
+use Rattle.connect.specs.BlockContext.{Setting}
 use Rattle.connect.specs.ConnectedBlock.{IsConnected}
 use Rattle.tree.specs.Branches.{Blocks, on, height, parent_at, block_at}
 use Rattle.tree.specs.Names.{names}
@@ -19,7 +19,7 @@ use Rattle.chain.specs.Rules.{Rules}
 use Rattle.chain.specs.Valid.{fault, branch_connects}
 use Rattle.chain.specs.Faults.{IsFirstFault}
 use Rattle.activate.specs.CoreState.{coins_after}
-use Rattle.chain.specs.Settled.{AllKept}
+use Rattle.chain.specs.StateInvariant.{AllKept}
 use Rattle.activate.specs.declared.path.ActiveBranch.{ActiveBranch}
 use Rattle.activate.specs.Lookups.{undo_at}
 use Rattle.activate.specs.inside.Kept.{IsBranch}

@@ -28,7 +28,7 @@ use Rattle.chain.specs.Rules.{Rules}
 use Rattle.chain.specs.Valid.{branch_connects}
 use Rattle.chain.specs.Settle.{active, on_candidate, settle}
 use Rattle.chain.specs.Try.{state_after_try}
-use Rattle.chain.specs.Settled.{AllKept}
+use Rattle.chain.specs.StateInvariant.{AllKept}
 use Rattle.chain.specs.Commands.{outcome}
 use Rattle.chain.specs.Submission.{Outcome, answer_added}
 use Rattle.activate.specs.CoreState.{CoreState, coins_of, lesser_of, most_undo}

@@ -5,7 +5,7 @@ use Rattle.std.proofs.lemmas.List.{length-append, length-reverse, length-map, le
 use Rattle.block.specs.declared.block.Block.{Block}
 use Rattle.coins.specs.declared.coin.Coin.{Coin}
 use Rattle.coins.specs.Coins.{Coins}
-use Rattle.connect.specs.Setting.{Setting}
+use Rattle.connect.specs.BlockContext.{Setting}
 use Rattle.connect.specs.ConnectedBlock.{IsConnected}
 use Rattle.tree.specs.Branches.{Blocks, branch, on, height, parent_at, block_at, blocks_at}
 use Rattle.tree.specs.Names.{names}

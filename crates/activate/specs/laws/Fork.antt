@@ -6,7 +6,7 @@ use Rattle.curve.specs.Triple.{Triples}
 use Rattle.coins.specs.declared.coin.Coin.{Coin}
 use Rattle.coins.specs.Coins.{Coins}
 use Rattle.rules.specs.declared.params.Params.{Params}
-use Rattle.connect.specs.Setting.{Setting}
+use Rattle.connect.specs.BlockContext.{Setting}
 use Rattle.connect.specs.Turns.{effect, undo_of}
 use Rattle.connect.specs.ConnectedBlock.{IsConnected}
 use Rattle.tree.specs.Branches.{Blocks, branch, height, parent_at, block_at, blocks_at}
@@ -15,7 +15,7 @@ use Rattle.chain.specs.Rules.{Rules}
 use Rattle.chain.specs.Valid.{connects}
 use Rattle.chain.specs.Replay.{coins_at}
 use Rattle.chain.specs.Regtest.{setting_on, ledger, regtest}
-use Rattle.chain.specs.Settled.{AllKept}
+use Rattle.chain.specs.StateInvariant.{AllKept}
 use Rattle.chain.specs.laws.Bound.{rules_kept}
 use Rattle.chain.specs.laws.Coins.{length-blocks, length-older, step-up, connects-parent}
 use Rattle.chain.specs.laws.Kept.{alone-at}

@@ -6,7 +6,7 @@ use Rattle.std.proofs.lemmas.Bool.{eq-eqb, ne_eqb, cases_Bool, cases_eq}
 use Rattle.std.proofs.lemmas.List.{get_or_default}
 use Rattle.std.proofs.lemmas.Option.{get_or_from_slice_get, slice_get_cases, slice_get_within}
 use Rattle.block.specs.declared.block.Block.{Block}
-use Rattle.block.specs.Stored.{genesis_alone}
+use Rattle.block.specs.StoredBlock.{genesis_alone}
 use Rattle.coins.specs.declared.coin.Coin.{Coin}
 use Rattle.coins.specs.Coins.{Coins}
 use Rattle.connect.specs.Turns.{turns, undo_of}
@@ -22,7 +22,7 @@ use Rattle.activate.specs.Lookups.{ancestor_at, depth_at, spent_at, undo_at}
 use Rattle.activate.specs.inside.Disconnection.{place_at}
 use Rattle.activate.specs.inside.Kept.{highest_undo}
 use Rattle.activate.specs.laws.ByHeight.{place-genesis, place-high, place-kept, place-of, place-on, places-long, undo-above}
-use Rattle.activate.specs.laws.Turning.{highest-long}
+use Rattle.activate.specs.laws.OtherBranch.{highest-long}
 
 module _ {B : Type 0} (t : Blocks B) where
   -- ---- the block of a branch at a height

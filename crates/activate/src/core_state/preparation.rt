@@ -3,7 +3,7 @@
 ghost use Rattle.std.specs.Prelude.{◌≡◌, ◌≤◌, IfOk, length, IfErr, IfSome};
 ghost use Rattle.hash.specs.declared.id.Id.{Id};
 ghost use Rattle.block.specs.declared.block.Block.{Block};
-ghost use Rattle.chain.specs.Prepared.{command_of};
+ghost use Rattle.chain.specs.PreparedCommand.{command_of};
 ghost use Rattle.chain.specs.Regtest.{regtest};
 ghost use Rattle.chain.specs.Rules.{Rules};
 ghost use Rattle.chain.specs.Submission.{answer_known};

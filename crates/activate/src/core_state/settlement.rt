@@ -6,7 +6,7 @@ ghost use Rattle.block.specs.declared.block.Block.{Block};
 ghost use Rattle.coins.specs.Coins.{Coins};
 ghost use Rattle.chain.specs.Faults.{IsNew};
 ghost use Rattle.chain.specs.Rules.{Rules};
-ghost use Rattle.chain.specs.Submitted.{IsJudged};
+ghost use Rattle.chain.specs.SubmissionFacts.{IsJudged};
 ghost use Rattle.chain.specs.Try.{state_after_try};
 ghost use Rattle.chain.specs.Regtest.{regtest};
 ghost use Rattle.activate.specs.CoreState.{CoreState, Follows, coins_of};

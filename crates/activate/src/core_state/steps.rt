@@ -3,7 +3,7 @@
 ghost use Rattle.std.specs.Prelude.{◌≡◌, IfErr, IfOk, OnErr, IfSome};
 ghost use Rattle.coins.specs.Changes.{after_changes};
 ghost use Rattle.chain.specs.Commands.{outcome};
-ghost use Rattle.chain.specs.Prepared.{command_of};
+ghost use Rattle.chain.specs.PreparedCommand.{command_of};
 ghost use Rattle.chain.specs.Regtest.{regtest};
 ghost use Rattle.activate.specs.CoreState.{Follows, coins_of};
 ghost use Rattle.activate.specs.Steps.{IsStep};

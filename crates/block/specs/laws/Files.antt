@@ -1,7 +1,7 @@
 -- A whole file, and a run of calls that read it: what the laws speak of.
 use Rattle.std.specs.Prelude.{◌≡◌, ◌⊎◌, ℕ, ◌≤◌, List, [], ◌∷◌, ◌++◌, length}
 use Rattle.std.specs.List.{AllByRecursion, flat_map}
-use Rattle.wire.specs.Spelling.{limit}
+use Rattle.wire.specs.Numbers.{limit}
 use Rattle.block.specs.Blk.{record_bytes, IsRecord, IsEnd, IsForeign, IsCut, IsTooLong}
 
 -- a file: the records of these blocks, in order, and then a rest at whose front no record stands

@@ -9,7 +9,7 @@ use Rattle.curve.specs.Triple.{Triples}
 use Rattle.coins.specs.Coins.{Coins, total}
 use Rattle.coins.specs.laws.Totals.{total-empty}
 use Rattle.rules.specs.declared.params.Params.{Params}
-use Rattle.connect.specs.Setting.{Setting}
+use Rattle.connect.specs.BlockContext.{Setting}
 use Rattle.connect.specs.Faults.{connect_rules}
 use Rattle.connect.specs.computed.Scripts.{connect_fault}
 use Rattle.connect.specs.laws.Total.{block_total}

@@ -8,18 +8,18 @@ use Rattle.tree.specs.Branches.{Blocks, branch, before, height, parent_at, block
 use Rattle.tree.specs.State.{State, opening, beats, with_block}
 use Rattle.tree.specs.laws.Branches.{branch_head, branch-genesis, on-genesis, on-itself}
 use Rattle.tree.specs.laws.Parents.{parent-kept, before-parent, branch-parent, height-parent, on-parent, climb}
-use Rattle.tree.specs.laws.Added.{blocks-new, blocks-old, usable_there}
+use Rattle.tree.specs.laws.AddedBlock.{blocks-new, blocks-old, usable_there}
 use Rattle.chain.specs.Rules.{Rules}
 use Rattle.chain.specs.Valid.{fault_over, fault, connects, branch_connects}
 use Rattle.chain.specs.Settle.{active, settle}
 use Rattle.chain.specs.Replay.{Ledger, replay, coins_at, coins}
 use Rattle.chain.specs.Total.{subsidies, IsBounded}
 use Rattle.chain.specs.Step.{Request, state_after_requests}
-use Rattle.chain.specs.Settled.{IsSettled, AllKept}
+use Rattle.chain.specs.StateInvariant.{IsSettled, AllKept}
 use Rattle.chain.specs.laws.Actives.{active_kept, active_valid}
 use Rattle.chain.specs.laws.Candidates.{valid_gives, valid_below}
 use Rattle.chain.specs.laws.Ordinary.{active-tip, active-beside}
-use Rattle.chain.specs.laws.Settled.{active-settle}
+use Rattle.chain.specs.laws.SettledState.{active-settle}
 use Rattle.chain.specs.laws.Steps.{opening_sound, after_sound}
 use Rattle.chain.specs.laws.Kept.{alone-at, after_kept}
 

@@ -11,7 +11,7 @@ use Rattle.rules.specs.declared.params.Params.{Params}
 use Rattle.tree.specs.Branches.{Blocks, has, branch, height, blocks_at, place_of}
 use Rattle.tree.specs.State.{State, has_no_mark, with_mark, without_marks, with_call}
 use Rattle.tree.specs.Names.{names}
-use Rattle.tree.specs.laws.Added.{place-bound}
+use Rattle.tree.specs.laws.AddedBlock.{place-bound}
 use Rattle.tree.specs.laws.Marks.{bad-flagged}
 use Rattle.chain.specs.declared.reply.SubmitReply.TheVariants.{Accepted, Inconclusive}
 use Rattle.chain.specs.declared.reply.MarkReply.TheVariants.{Done}
@@ -22,7 +22,7 @@ use Rattle.chain.specs.Context.{fault_on, first_fault}
 use Rattle.chain.specs.Submission.{submit_says, reply_by_reason, answer_added, outcome_of_added}
 use Rattle.chain.specs.Step.{Invalidate, Reconsider, Precious, mark_says, outcome_of_invalidate, outcome_of_reconsider, outcome_of_precious, step}
 use Rattle.chain.specs.Regtest.{regtest}
-use Rattle.chain.specs.laws.Settled.{active-settle, settle-blocks}
+use Rattle.chain.specs.laws.SettledState.{active-settle, settle-blocks}
 
 module _ (params : Params) (triples : Triples) (s : State Block) where
   abbrev r : Rules Block Id

@@ -11,7 +11,7 @@ use Rattle.chain.specs.Rules.{Rules}
 use Rattle.chain.specs.Valid.{connects, branch_connects, first_to_fail}
 use Rattle.chain.specs.Faults.{IsFirstFault}
 use Rattle.chain.specs.laws.Candidates.{valid_gives, valid_from}
-use Rattle.chain.specs.laws.Connected.{fault_new, connects_there, first_there}
+use Rattle.chain.specs.laws.AddedBlock.{fault_new, connects_there, first_there}
 
 module _ {B I : Type 0} (r : Rules B I) (k : Kept B) (older : Blocks B) (kept : k.parent ≤ length older) where
   abbrev n : ℕ

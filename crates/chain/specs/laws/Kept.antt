@@ -7,7 +7,7 @@ use Rattle.tree.specs.Branches.{Blocks, height, block_at, id_at, place_of}
 use Rattle.tree.specs.State.{State, without_marks, with_call}
 use Rattle.tree.specs.Limits.{max_blocks}
 use Rattle.tree.specs.laws.Sets.{clash}
-use Rattle.tree.specs.laws.Added.{id_here, id_there}
+use Rattle.tree.specs.laws.AddedBlock.{id_here, id_there}
 use Rattle.chain.specs.declared.reply.SubmitReply.TheVariants.{TreeFull}
 use Rattle.chain.specs.declared.reply.MarkReply.TheVariants.{Done}
 use Rattle.chain.specs.Rules.{Rules}
@@ -15,7 +15,7 @@ use Rattle.chain.specs.Settle.{active, settle}
 use Rattle.chain.specs.Context.{first_fault}
 use Rattle.chain.specs.Submission.{submit_says, kept_blocks, outcome_by_fault, outcome_of_submission}
 use Rattle.chain.specs.Step.{Request, Submit, Invalidate, Reconsider, Precious, mark_says, outcome_of_invalidate, outcome_of_reconsider, outcome_of_precious, step, state_after_requests}
-use Rattle.chain.specs.Settled.{AllKept}
+use Rattle.chain.specs.StateInvariant.{AllKept}
 use Rattle.chain.specs.Faults.{IdsAreKeptOnce}
 use Rattle.chain.specs.laws.Steps.{faultless-alone, faultless-parent}
 

@@ -4,7 +4,7 @@ use mathlib.Core.List.{IsPrefix}
 use Rattle.curve.specs.Triple.{Triples}
 use Rattle.curve.specs.Known.{Agrees, Under, Verdicts, all_known, verdict_in}
 use Rattle.curve.specs.laws.Growth.{learning-agrees, table-alone}
-use Rattle.curve.specs.laws.Agreeing.{found_agrees, table_agrees}
+use Rattle.curve.specs.laws.Agreement.{found_agrees, table_agrees}
 use Rattle.chain.specs.declared.command.Command.{Command}
 use Rattle.chain.specs.declared.command.Command.TheVariants.{Submit, Invalidate, Reconsider, Precious, Learn}
 use Rattle.chain.specs.declared.entry.Entry.{Entry}

@@ -8,17 +8,17 @@ use Rattle.tree.specs.laws.Sets.{clash, in_order-joined}
 use Rattle.tree.specs.laws.Branches.{on-bounds, on_there}
 use Rattle.tree.specs.laws.Ranks.{better_falls, better-others}
 use Rattle.tree.specs.laws.Marks.{usable_gives, bad-flagged, seen-flagged}
-use Rattle.tree.specs.laws.Added.{better_there, usable_there}
+use Rattle.tree.specs.laws.AddedBlock.{better_there, usable_there}
 use Rattle.chain.specs.Rules.{Rules}
 use Rattle.chain.specs.Valid.{branch_connects, first_to_fail}
 use Rattle.chain.specs.Settle.{active, is_candidate, settle}
 use Rattle.chain.specs.Try.{fails_on, passes_on, state_after_try}
-use Rattle.chain.specs.Settled.{IsSettled}
+use Rattle.chain.specs.StateInvariant.{IsSettled}
 use Rattle.chain.specs.laws.Actives.{active_only, active_kept, active_usable, active_valid, can_from, can_gives}
 use Rattle.chain.specs.laws.Candidates.{first_failure, never_fails, candidate_gives}
-use Rattle.chain.specs.laws.Connected.{valid_there}
-use Rattle.chain.specs.laws.Preferring.{usable-called}
-use Rattle.chain.specs.laws.Settled.{best_usable, active_seen, settled_where}
+use Rattle.chain.specs.laws.AddedBlock.{valid_there}
+use Rattle.chain.specs.laws.Precious.{usable-called}
+use Rattle.chain.specs.laws.SettledState.{best_usable, active_seen, settled_where}
 use Rattle.chain.specs.laws.Tries.{best-candidate, active-best, settle-best, settle-tried, was_candidate}
 
 -- the best usable block c isn't valid; the block a is valid, its branch was seen, and it is the next best usable one

@@ -10,17 +10,17 @@ use Rattle.tree.specs.Sound.{IsBest}
 use Rattle.tree.specs.laws.Sets.{clash, all_from, none_above, joined_agree, joined_more, joined_new, joined_within}
 use Rattle.tree.specs.laws.Branches.{on-bounds, on-itself, on_there, on_here, before_here, height_there, height_here}
 use Rattle.tree.specs.laws.Ranks.{better_or, better_from, better-height}
-use Rattle.tree.specs.laws.Added.{better_there, usable_there, usable_new}
+use Rattle.tree.specs.laws.AddedBlock.{better_there, usable_there, usable_new}
 use Rattle.chain.specs.Rules.{Rules}
 use Rattle.chain.specs.Valid.{fault, connects, branch_connects, first_to_fail}
 use Rattle.chain.specs.Settle.{active, is_candidate, settle}
 use Rattle.chain.specs.Try.{fails_on, passes_on, state_after_try}
-use Rattle.chain.specs.Settled.{IsSettled}
+use Rattle.chain.specs.StateInvariant.{IsSettled}
 use Rattle.chain.specs.laws.Actives.{active_is, active_only, active_kept, active_usable, active_valid, can_from, can_gives}
 use Rattle.chain.specs.laws.Candidates.{valid_gives, valid_from, never_fails, candidate_gives, candidate_from}
 use Rattle.chain.specs.laws.Tries.{settle-one, settle-best, active-best, best-candidate}
-use Rattle.chain.specs.laws.Settled.{bad_in-order, seen_in-order, one_candidate, best_usable, active_seen, settled_where}
-use Rattle.chain.specs.laws.Connected.{fault_new, connects_there, valid_there, first_there}
+use Rattle.chain.specs.laws.SettledState.{bad_in-order, seen_in-order, one_candidate, best_usable, active_seen, settled_where}
+use Rattle.chain.specs.laws.AddedBlock.{fault_new, connects_there, valid_there, first_there}
 
 module _ {B I : Type 0} (r : Rules B I) (s : State B) (sound : IsSettled r s) (b : B) (p : ℕ) where
   abbrev k : Kept B

@@ -3,7 +3,7 @@ use Rattle.std.proofs.Common.{◌≡◌, Bool, ℕ, zero, suc, ◌+◌, ◌<◌,
 use Rattle.std.specs.Option.{unwrap_or}
 use Rattle.hash.specs.declared.id.Id.{Id}
 use Rattle.block.specs.declared.block.Block.{Block}
-use Rattle.block.specs.Decoding.{block_of_bytes}
+use Rattle.block.specs.BlockOfBytes.{block_of_bytes}
 use Rattle.curve.specs.Triple.{Triple}
 use Rattle.tree.specs.State.{State}
 use Rattle.chain.specs.declared.command.Command.{Command}
@@ -14,7 +14,7 @@ use Rattle.chain.specs.Rules.{Rules}
 use Rattle.chain.specs.Submission.{Outcome, submit_says}
 use Rattle.chain.specs.Step.{Request, Submit, Invalidate, Reconsider, Precious, mark_says, step}
 use Rattle.chain.specs.Commands.{submit_step, command_step, outcome, state_after_commands}
-use Rattle.chain.specs.Settled.{IsSettled, AllKept}
+use Rattle.chain.specs.StateInvariant.{IsSettled, AllKept}
 use Rattle.chain.specs.laws.Steps.{step_sound}
 use Rattle.chain.specs.laws.Kept.{step_kept}
 

@@ -10,7 +10,7 @@ use Rattle.tree.specs.Limits.{max_blocks}
 use Rattle.tree.specs.laws.Sets.{has_here, has-joined, none_above}
 use Rattle.tree.specs.laws.Branches.{on-bounds}
 use Rattle.tree.specs.laws.Marks.{usable_gives, usable_from, usable-cleared}
-use Rattle.tree.specs.laws.Added.{usable_there, place-bound}
+use Rattle.tree.specs.laws.AddedBlock.{usable_there, place-bound}
 use Rattle.chain.specs.declared.reply.SubmitReply.TheVariants.{Accepted, Inconclusive, Rejected, TreeFull}
 use Rattle.chain.specs.declared.reply.MarkReply.TheVariants.{Done, NotFound, Genesis}
 use Rattle.chain.specs.Rules.{Rules}
@@ -19,12 +19,12 @@ use Rattle.chain.specs.Settle.{active, settle}
 use Rattle.chain.specs.Context.{fault_on, first_fault}
 use Rattle.chain.specs.Submission.{Outcome, submit_says, reply_by_reason, kept_blocks, answer_known, answer_added, outcome_of_added, outcome_by_fault, outcome_of_submission}
 use Rattle.chain.specs.Step.{Request, Submit, Invalidate, Reconsider, Precious, mark_says, outcome_of_invalidate, outcome_of_reconsider, outcome_of_precious, step, state_after_requests}
-use Rattle.chain.specs.Settled.{IsSettled}
+use Rattle.chain.specs.StateInvariant.{IsSettled}
 use Rattle.chain.specs.Faults.{IsNew}
 use Rattle.chain.specs.laws.Actives.{active_kept, valid-genesis}
-use Rattle.chain.specs.laws.Settled.{bad_in-order, settle_twice, genesis-settle, active-settle, settled_where}
+use Rattle.chain.specs.laws.SettledState.{bad_in-order, settle_twice, genesis-settle, active-settle, settled_where}
 use Rattle.chain.specs.laws.Ordinary.{fault_own, active-tip, settle-tip, active_tip-fails, settle_tip-fails, active-beside, settle-beside}
-use Rattle.chain.specs.laws.Preferring.{usable-called, active-called, settle-called_active}
+use Rattle.chain.specs.laws.Precious.{usable-called, active-called, settle-called_active}
 
 -- by a test of two numbers
 if_true : {A : Type 0} (b : Bool) (x y : A) → b ≡ true → cond b x y ≡ x

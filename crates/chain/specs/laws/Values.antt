@@ -18,11 +18,11 @@ use Rattle.coins.specs.Coins.{Coins, outpoint_cmp, same}
 use Rattle.coins.specs.laws.Lookups.{entry_for}
 use Rattle.undo.specs.Effect.{outpoint_at, spends, spendable, coin_of, makes, without, after}
 use Rattle.undo.specs.laws.Effects.{get-without, get-with_coins}
-use Rattle.undo.specs.laws.Undoing.{once-makes}
+use Rattle.undo.specs.laws.RoundTrip.{once-makes}
 use Rattle.rules.specs.declared.params.Params.{Params}
 use Rattle.connect.specs.Turns.{effect}
 use Rattle.connect.specs.laws.Alone.{lawful_block}
-use Rattle.connect.specs.laws.Folding.{effect_none, effect_next}
+use Rattle.connect.specs.laws.Turns.{effect_none, effect_next}
 use Rattle.connect.specs.laws.Total.{IsPaid, all_paid}
 use Rattle.tree.specs.Branches.{Blocks, height, block_at}
 use Rattle.tree.specs.laws.Branches.{on-genesis}
@@ -31,7 +31,7 @@ use Rattle.tree.specs.Names.{names}
 use Rattle.chain.specs.Rules.{Rules}
 use Rattle.chain.specs.Replay.{coins_at}
 use Rattle.chain.specs.Regtest.{AreNotNegative, ledger, regtest}
-use Rattle.chain.specs.Settled.{AllKept}
+use Rattle.chain.specs.StateInvariant.{AllKept}
 use Rattle.chain.specs.laws.Coins.{coins-genesis, step-up}
 use Rattle.chain.specs.laws.Kept.{alone-at}
 

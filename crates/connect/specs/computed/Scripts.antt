@@ -5,9 +5,9 @@ use Rattle.txn.specs.declared.tx.Tx.{Tx}
 use Rattle.txn.specs.declared.reason.Reason.{Reason}
 use Rattle.txn.specs.First.{first_broken}
 use Rattle.curve.specs.Triple.{Triples}
-use Rattle.interp.specs.computed.Verifying.{accepts}
+use Rattle.interp.specs.computed.InputVerdict.{accepts}
 use Rattle.coins.specs.Coins.{Coins}
-use Rattle.connect.specs.Setting.{Setting}
+use Rattle.connect.specs.BlockContext.{Setting}
 use Rattle.connect.specs.Faults.{connect_rules}
 use Rattle.connect.specs.Scripts.{Check, refusal, script_checks}
 

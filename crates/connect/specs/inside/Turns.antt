@@ -8,7 +8,7 @@ use Rattle.coins.specs.declared.coin.Coin.{Coin}
 use Rattle.coins.specs.Coins.{Coins, Layer, same}
 use Rattle.undo.specs.Effect.{spends}
 use Rattle.rules.specs.Alone.{max_block_sigops}
-use Rattle.connect.specs.Setting.{Setting}
+use Rattle.connect.specs.BlockContext.{Setting}
 use Rattle.connect.specs.Turns.{Turn, spent_in, turn, turns, left_by, full_count, effect, undo_of}
 use Rattle.connect.specs.Faults.{turn_rules, connect_rules}
 use Rattle.connect.specs.Faults as faults

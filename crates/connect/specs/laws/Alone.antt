@@ -25,7 +25,7 @@ use Rattle.block.specs.Merkle.{root, twin}
 use Rattle.block.specs.Sizes.{size_of}
 use Rattle.block.specs.Target.{meets_target}
 use Rattle.wire.specs.Grammar.{number}
-use Rattle.wire.specs.Spelling.{compact_size, i32le, i64le}
+use Rattle.wire.specs.Numbers.{compact_size, i32le, i64le}
 use Rattle.coins.specs.Coins.{same}
 use Rattle.coins.specs.laws.Lookups.{same-true}
 use Rattle.rules.specs.Alone.{max_block_size, max_block_sigops, begins_with_coinbase, tx_sigops, alone_rules}

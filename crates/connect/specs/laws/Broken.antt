@@ -4,7 +4,7 @@ use Rattle.txn.specs.declared.reason.Reason.{Reason}
 use Rattle.txn.specs.declared.reason.Reason.TheVariants.{TooManySigops, NonFinal, OverwritesCoin, InputsMissingOrSpent, PrematureCoinbaseSpend, InputsBelowOutputs}
 use Rattle.txn.specs.First.{Rules, first_broken}
 use Rattle.rules.specs.Alone.{max_block_sigops}
-use Rattle.connect.specs.Setting.{Setting}
+use Rattle.connect.specs.BlockContext.{Setting}
 use Rattle.connect.specs.Turns.{Turn, plain_count, full_count}
 use Rattle.connect.specs.Faults.{overwrites, is_missing, spends_immature, pays_too_much, is_locked, turn_rules}
 

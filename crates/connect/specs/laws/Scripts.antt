@@ -5,10 +5,10 @@ use Rattle.txn.specs.declared.tx.Tx.{Tx}
 use Rattle.txn.specs.declared.reason.Reason.{Reason}
 use Rattle.txn.specs.First.{first_broken}
 use Rattle.curve.specs.Triple.{Triples}
-use Rattle.interp.specs.computed.Verifying.{accepts}
-use Rattle.interp.specs.laws.Verifying.{accepts-right}
+use Rattle.interp.specs.computed.InputVerdict.{accepts}
+use Rattle.interp.specs.laws.InputVerdict.{accepts-right}
 use Rattle.coins.specs.Coins.{Coins}
-use Rattle.connect.specs.Setting.{Setting}
+use Rattle.connect.specs.BlockContext.{Setting}
 use Rattle.connect.specs.Faults.{connect_rules}
 use Rattle.connect.specs.Scripts.{Check, refusal, script_checks, IsFirstRefused, IsBefore, IsConnectFault}
 use Rattle.connect.specs.computed.Scripts.{first_refused, connect_fault}

@@ -22,16 +22,16 @@ use Rattle.coins.specs.declared.coin.Coin.{Coin}
 use Rattle.coins.specs.Coins.{Coins, same, sum_of_values, total}
 use Rattle.coins.specs.laws.Totals.{total-insert, total-remove}
 use Rattle.undo.specs.Effect.{outpoint_at, spends, spendable, coin_of, makes, without, with_coins, after, coins_at, spent_coins}
-use Rattle.undo.specs.laws.Reverting.{AreCoins, AreNew}
+use Rattle.undo.specs.laws.Reversal.{AreCoins, AreNew}
 use Rattle.undo.specs.laws.Effects.{other_kept, coins_next, new_next}
-use Rattle.undo.specs.laws.Undoing.{are_coins, are_new}
-use Rattle.connect.specs.Setting.{Setting}
+use Rattle.undo.specs.laws.RoundTrip.{are_coins, are_new}
+use Rattle.connect.specs.BlockContext.{Setting}
 use Rattle.connect.specs.Turns.{Turn, turn, turns, effect, left_by, full_count}
 use Rattle.connect.specs.Faults.{fee, fees, overwrites, reward_of, turn_rules, connect_rules}
 use Rattle.connect.specs.laws.Alone.{both_clear, lawful_block}
-use Rattle.connect.specs.laws.Applying.{all_apply, each_clear}
+use Rattle.connect.specs.laws.Application.{all_apply, each_clear}
 use Rattle.connect.specs.laws.Broken.{head_clear, tail_clear}
-use Rattle.connect.specs.laws.Folding.{CanTurn, can_next, turns_none, turns_next, effect_none, effect_next}
+use Rattle.connect.specs.laws.Turns.{CanTurn, can_next, turns_none, turns_next, effect_none, effect_next}
 
 -- ---- coins that are taken
 

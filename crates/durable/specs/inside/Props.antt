@@ -2,7 +2,7 @@
 use Rattle.std.specs.Prelude.{ℕ, Bool, not, List, [], ◌∷◌, ◌==◌}
 use denote.Struct.Props as logic
 use Rattle.durable.specs.Lines.{AreWhole}
-use Rattle.durable.specs.Keeping.{Told, AreUpTo}
+use Rattle.durable.specs.KeptSteps.{Told, AreUpTo}
 
 pub whole-prop : (begun : Bool) (text : List ℕ) → IsProp (AreWhole begun text)
 whole-prop begun [] = Prim.hlevel logic.props

@@ -1,6 +1,6 @@
 -- A set of valid signatures that agrees with what a session knows.
 use Rattle.curve.specs.Known.{Agrees}
-use Rattle.curve.specs.laws.Agreeing.{table_agrees, found_agrees}
+use Rattle.curve.specs.laws.Agreement.{table_agrees, found_agrees}
 use Rattle.ffi.specs.declared.signatures.Signatures.{Signatures}
 use Rattle.ffi.specs.declared.signatures.Signatures.TheVariants.{Listed, Found}
 use Rattle.ffi.specs.Signatures.{valid_in}

@@ -2,7 +2,7 @@
 use base.Stored.{Coded}
 use Rattle.std.specs.Prelude.{Option}
 use Rattle.std.specs.Coded.{coded_option}
-use Rattle.sighash.specs.contracts.precomputed.PrecomputedTx as tx
+use Rattle.sighash.specs.contracts.precomputed_tx.PrecomputedTx as tx
 use Rattle.ffi.specs.contracts.session.Session.{the_row}
 use Rattle.ffi.specs.contracts.utxo.Utxo as utxo
 

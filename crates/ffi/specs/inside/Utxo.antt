@@ -2,7 +2,7 @@
 use Rattle.std.specs.Prelude.{◌≡◌, Option, None, Some}
 use Rattle.std.specs.Option.{option_map}
 use Rattle.coins.specs.Coins.{Coins}
-use Rattle.connect.specs.Setting.{Setting}
+use Rattle.connect.specs.BlockContext.{Setting}
 use Rattle.connect.specs.ConnectedBlock.{IsConnected}
 use Rattle.ffi.specs.UtxoState.{Connected}
 use Rattle.ffi.specs.declared.utxo.Done.{Done}

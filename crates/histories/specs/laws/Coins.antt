@@ -1,7 +1,7 @@
 -- What all coins are worth along a history.
 use Rattle.std.proofs.Common.{pos, ◌≤ℤ◌, List, [], ◌∷◌, Option, Some, None}
 use Rattle.hash.specs.declared.id.Id.{Id}
-use Rattle.block.specs.Decoding.{block_of_bytes}
+use Rattle.block.specs.BlockOfBytes.{block_of_bytes}
 use Rattle.block.specs.Reward.{subsidy_of}
 use Rattle.block.specs.declared.block.Block.{Block}
 use Rattle.coins.specs.Coins.{total}
@@ -19,7 +19,7 @@ use Rattle.chain.specs.Regtest.{ledger, regtest}
 use Rattle.chain.specs.Replay.{coins}
 use Rattle.chain.specs.Rules.{Rules}
 use Rattle.chain.specs.Settle.{active}
-use Rattle.chain.specs.Settled.{IsSettled, AllKept}
+use Rattle.chain.specs.StateInvariant.{IsSettled, AllKept}
 use Rattle.chain.specs.Step.{Request, Submit, Invalidate, Reconsider, Precious, step}
 use Rattle.chain.specs.Total.{subsidies}
 use Rattle.chain.specs.laws.Actives.{active_kept, active_valid}

@@ -17,10 +17,10 @@ use Rattle.coins.specs.Coins.{Coins, same}
 use Rattle.coins.specs.laws.Lookups.{entry_for}
 use Rattle.undo.specs.Effect.{outpoint_at, spends, spendable, coin_of, makes, without, after}
 use Rattle.undo.specs.laws.Effects.{get-without, get-with_coins}
-use Rattle.undo.specs.laws.Undoing.{once-makes}
+use Rattle.undo.specs.laws.RoundTrip.{once-makes}
 use Rattle.rules.specs.declared.params.Params.{Params}
 use Rattle.connect.specs.Turns.{effect}
-use Rattle.connect.specs.laws.Folding.{effect_none, effect_next}
+use Rattle.connect.specs.laws.Turns.{effect_none, effect_next}
 use Rattle.tree.specs.Branches.{Blocks, block_at, height, on, parent_at}
 use Rattle.tree.specs.Names.{names}
 use Rattle.tree.specs.laws.Branches.{on-itself, on_trans}

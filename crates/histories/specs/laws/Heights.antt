@@ -4,12 +4,12 @@ use Rattle.std.proofs.Common.{List, leb}
 use Rattle.std.specs.Option.{unwrap_or}
 use Rattle.hash.specs.declared.id.Id.{Id}
 use Rattle.txn.specs.declared.reason.Reason.{Reason}
-use Rattle.block.specs.Decoding.{block_of_bytes}
+use Rattle.block.specs.BlockOfBytes.{block_of_bytes}
 use Rattle.block.specs.declared.block.Block.{Block}
 use Rattle.tree.specs.Branches.{Kept, height, place_of}
 use Rattle.tree.specs.Limits.{max_blocks}
 use Rattle.tree.specs.State.{State, with_block}
-use Rattle.tree.specs.laws.Added.{usable_there}
+use Rattle.tree.specs.laws.AddedBlock.{usable_there}
 use Rattle.tree.specs.laws.Branches.{height_there}
 use Rattle.tree.specs.laws.Ranks.{better-height}
 use Rattle.chain.specs.declared.command.Command.TheVariants as command
@@ -19,12 +19,12 @@ use Rattle.chain.specs.Context.{first_fault}
 use Rattle.chain.specs.History.{state_left}
 use Rattle.chain.specs.Rules.{Rules}
 use Rattle.chain.specs.Settle.{active, settle}
-use Rattle.chain.specs.Settled.{IsSettled}
+use Rattle.chain.specs.StateInvariant.{IsSettled}
 use Rattle.chain.specs.Step.{step}
 use Rattle.chain.specs.Submission.{kept_blocks, outcome_by_fault, outcome_of_submission, submit_says}
 use Rattle.chain.specs.laws.Actives.{active_is, active_kept, active_usable, active_valid, can_from}
-use Rattle.chain.specs.laws.Connected.{valid_there}
-use Rattle.chain.specs.laws.Settled.{active-settle}
+use Rattle.chain.specs.laws.AddedBlock.{valid_there}
+use Rattle.chain.specs.laws.SettledState.{active-settle}
 
 module _ (r : Rules Block Id) (s : State Block) (sound : IsSettled r s) where
   -- the active block of a state is at least as high as that of s

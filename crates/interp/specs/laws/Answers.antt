@@ -3,7 +3,7 @@ use Rattle.std.proofs.Common.{◌≡◌, Option, Some, None, refl, sym}
 use Rattle.std.specs.Prelude.{Result, Ok, Err, IfOk, IfErr}
 use Rattle.std.specs.Option.{option_map, option_and_then}
 use Rattle.interp.specs.Answer.{Answer, Says, Wants, answer_map, on_some, and_then, Stops, Tells}
-use Rattle.interp.specs.declared.unverified.Unverified.{Unverified}
+use Rattle.interp.specs.declared.no_verdict.Unverified.{Unverified}
 
 pub then-some : {A B : Type 0} (o : Option A) (f : A → Option B) (y : B) → option_and_then f o ≡ Some y → (x : A) × (o ≡ Some x) × (f x ≡ Some y)
 then-some None f y e = cc

@@ -1,6 +1,6 @@
 -- The history as it is kept, with the chainstate after it.
 use Rattle.std.specs.Prelude.{◌≡◌, ◌≤◌, Bool, true, false, List, None}
-use Rattle.block.specs.Decoding.{block_of_bytes}
+use Rattle.block.specs.BlockOfBytes.{block_of_bytes}
 use Rattle.curve.specs.Known.{Under}
 use Rattle.curve.specs.Triple.{Triples}
 use Rattle.tree.specs.Limits.{max_blocks}

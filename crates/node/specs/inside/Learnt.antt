@@ -2,7 +2,7 @@
 use Rattle.std.specs.Prelude.{◌≡◌}
 use Rattle.curve.specs.Known.{Verdicts, verdict_in}
 use Rattle.curve.specs.laws.Growth.{Grows}
-use Rattle.view.specs.Beginning.{Beginning}
+use Rattle.view.specs.HistoryPrefix.{Beginning}
 use Rattle.view.specs.Origin.{Origin, known_in}
 
 -- verdicts, and a history that has them

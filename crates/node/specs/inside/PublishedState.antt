@@ -12,14 +12,14 @@ use Rattle.chain.specs.History.{entry_of}
 use Rattle.chain.specs.Regtest.{regtest}
 use Rattle.activate.specs.CoreState.{CoreState, WithCoins}
 use Rattle.activate.specs.CoreState as core_state
-use Rattle.view.specs.Beginning.{Beginning}
+use Rattle.view.specs.HistoryPrefix.{Beginning}
 use Rattle.view.specs.Origin.{Origin, known_in}
 use Rattle.view.specs.ViewState.{ViewState, IsExact, IsLegal, coins_after, state_after}
 use Rattle.view.specs.NextPublications.{AllFollow}
 use Rattle.view.specs.declared.publication.Publication.{Publication}
 use Rattle.node.specs.declared.published_history.knowledge.Knowledge.{Knowledge}
-use Rattle.node.specs.declared.published_history.pending.Pending.{Pending}
-use Rattle.node.specs.declared.published_history.pending.Pending.TheVariants as pending
+use Rattle.node.specs.declared.published_history.owed_step.Pending.{Pending}
+use Rattle.node.specs.declared.published_history.owed_step.Pending.TheVariants as pending
 use Rattle.node.specs.Told.{reply_to}
 use Rattle.node.specs.inside.Kept.{KeepsHistory, IsReplyTo, IsUndecodable, is_step}
 use Rattle.node.specs.inside.Knowledge.{IsKnowledge}

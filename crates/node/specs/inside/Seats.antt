@@ -4,7 +4,7 @@ use mathlib.Core.List.{IsPrefix}
 use Rattle.curve.specs.Triple.{Triples}
 use Rattle.rules.specs.declared.params.Params.{Params}
 use Rattle.chain.specs.declared.entry.Entry.{Entry}
-use Rattle.view.specs.Beginning.{Beginning}
+use Rattle.view.specs.HistoryPrefix.{Beginning}
 use Rattle.view.specs.Origin.{Origin}
 use Rattle.view.specs.ViewState.{ViewState, IsExact, IsLegal}
 

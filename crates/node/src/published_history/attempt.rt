@@ -4,7 +4,7 @@ ghost use Rattle.std.specs.Prelude.{◌≡◌, ◌++◌, ◌∷◌, [], IfSome, 
 ghost use Rattle.view.specs.NextPublications.{AllFollow};
 ghost use Rattle.node.specs.inside.PublishedState.{AreDue, Shows, entry_with_reply, is_owed, owed_by};
 
-use crate::published_history::pending::Pending;
+use crate::published_history::owed_step::Pending;
 use crate::published_history::writer_home::WriterHome;
 use std::sync::Wait;
 use view::{Naming, Note, Publication, ViewWriter, publish};

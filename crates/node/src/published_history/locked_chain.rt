@@ -3,7 +3,7 @@
 ghost use Rattle.std.specs.Prelude.{◌≡◌, ◌≤◌, All, IfOk, IfErr};
 ghost use Rattle.queue.specs.Jobs.{IsEarly};
 ghost use Rattle.chain.specs.Learnt.{IsNews};
-ghost use Rattle.chain.specs.Prepared.{command_of};
+ghost use Rattle.chain.specs.PreparedCommand.{command_of};
 ghost use Rattle.node.specs.inside.Knowledge.{known_behind, known_of};
 ghost use Rattle.node.specs.inside.PublishedState.{AreCoreSteps, IsCoreReply, IsLockedAt};
 ghost use Rattle.node.specs.inside.Refusal.{IsWantOf};

@@ -23,7 +23,7 @@ use Rattle.chain.specs.declared.reply.SubmitReply.TheVariants.{Inconclusive, Rej
 use Rattle.chain.specs.Rules.{Rules}
 use Rattle.chain.specs.Valid.{fault_over}
 use Rattle.chain.specs.Regtest.{regtest}
-use Rattle.chain.specs.Settled.{AllKept}
+use Rattle.chain.specs.StateInvariant.{AllKept}
 
 abbrev pub chain_rules : Chain → Rules Block Id
 chain_rules chain = regtest chain.params.now chain.table.now

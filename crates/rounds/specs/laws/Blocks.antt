@@ -10,10 +10,10 @@ use Rattle.curve.specs.laws.Growth.{Grows}
 use Rattle.interp.specs.Answer.{Answer, Says, Wants}
 use Rattle.rounds.specs.Rounds.{AreRounds, max_rounds}
 use Rattle.interp.specs.computed.Step.{verdict}
-use Rattle.interp.specs.laws.Keeping.{verdict-kept}
+use Rattle.interp.specs.laws.KnownVerdicts.{verdict-kept}
 use Rattle.rounds.specs.laws.Rounds.{questions_left, left-within, left-some, left-fewer, left-found, rounds-within}
 use Rattle.coins.specs.Coins.{Coins}
-use Rattle.connect.specs.Setting.{Setting}
+use Rattle.connect.specs.BlockContext.{Setting}
 use Rattle.connect.specs.Scripts.{Check, script_checks, want_first, wants_of, AreWantedByBlock}
 
 -- the most that one of these scripts before the first that is refused may still ask

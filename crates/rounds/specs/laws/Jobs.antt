@@ -12,10 +12,10 @@ use Rattle.interp.specs.Question.{question_of}
 use Rattle.rounds.specs.Rounds.{AreRounds, WantsOne, JobsWant, max_rounds}
 use Rattle.interp.specs.computed.Step as step
 use Rattle.interp.specs.declared.job.Job.{Job}
-use Rattle.interp.specs.laws.Keeping.{verdict-kept}
+use Rattle.interp.specs.laws.KnownVerdicts.{verdict-kept}
 use Rattle.rounds.specs.laws.Rounds.{few-rounds}
 use Rattle.queue.specs.Jobs.{verdict_at, verdict_of}
-use Rattle.queue.specs.Telling.{want_of, wants_below, IsEnd}
+use Rattle.queue.specs.FirstAnswer.{want_of, wants_below, IsEnd}
 
 -- ---- lists of wants
 all-front : (P : Triple → Type 0) (xs ys : List Triple) → All P (xs ++ ys) → All P xs

@@ -16,7 +16,7 @@ use Rattle.interp.specs.State.{State, start}
 use Rattle.interp.specs.computed.Step.{step, run, outcome, end_of, has_true_top, ends_true, inner_verdict, verdict_on, verdict_after, verdict_with, verdict_of_input, verdict}
 use Rattle.rounds.specs.laws.Inquiry.{End, AsksWithin, alike, says, follow, follows, maps, left_in, thens, alsos, before, chosen}
 use Rattle.rounds.specs.laws.Table.{room}
-use Rattle.rounds.specs.laws.Asking.{IsQuiet, step-within, step-quiet}
+use Rattle.rounds.specs.laws.Questions.{IsQuiet, step-within, step-quiet}
 
 module _ (q : Question) where
   -- ---- a script

@@ -1,9 +1,9 @@
 //! Coins, and maps of them.
 
 use crate::inputs::fault::Fault;
-use crate::inputs::filling::Filling;
 use crate::inputs::lists::put_made;
 use crate::inputs::payments::{TRUE, coin, to_key_hash};
+use crate::inputs::random_bytes::Filling;
 use crate::inputs::start::{WORTH, shuffle};
 use coins::{Coin, CoinMap};
 use hash::Id;

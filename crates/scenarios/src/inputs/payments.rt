@@ -1,8 +1,8 @@
 //! Transactions and coins, and blocks of payments with one input and two outputs.
 
 use crate::inputs::fault::Fault;
-use crate::inputs::filling::Filling;
 use crate::inputs::lists::{copied, one, put_first, put_made};
+use crate::inputs::random_bytes::Filling;
 use block::{Block, Header, Txs, meets_target, merkle};
 use coins::Coin;
 use hash::Id;

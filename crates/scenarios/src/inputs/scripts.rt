@@ -1,8 +1,8 @@
 //! Spends of scripts that do much.
 
 use crate::inputs::fault::Fault;
-use crate::inputs::filling::Filling;
 use crate::inputs::lists::{copied, put_bytes, put_times};
+use crate::inputs::random_bytes::Filling;
 use crate::inputs::spends::{Spend, Spends, key, signature, signed_input, spender};
 use std::alloc::Global;
 

@@ -1,9 +1,9 @@
 //! Inputs with the scripts that they spend, and the signatures that are valid for them.
 
 use crate::inputs::fault::Fault;
-use crate::inputs::filling::Filling;
 use crate::inputs::lists::{copied, one, put};
 use crate::inputs::payments::{nowhere, output_to_key, spending, to_key_hash};
+use crate::inputs::random_bytes::Filling;
 use curve::Table;
 use hash::hash160;
 use interp::{Flags, Job};

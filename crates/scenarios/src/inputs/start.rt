@@ -2,9 +2,9 @@
 
 use crate::inputs::branch::{Branch, bytes_of};
 use crate::inputs::fault::Fault;
-use crate::inputs::filling::Filling;
 use crate::inputs::lists::{copied, put, put_made};
 use crate::inputs::payments::{TRUE, outputs, signed, spending};
+use crate::inputs::random_bytes::Filling;
 use hash::Id;
 use std::alloc::Global;
 use txn::{OutPoint, Tx, ids};

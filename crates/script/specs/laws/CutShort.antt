@@ -8,7 +8,7 @@ use Rattle.std.proofs.lemmas.List.{take-append-drop, append-nil}
 use Rattle.std.proofs.lemmas.Nat.{le_bytes_2, le_bytes_4}
 use borrow.Author.Tests.{le-ltb}
 use Rattle.wire.specs.Grammar.{IsBytes}
-use Rattle.wire.specs.laws.Reading.{IsBytes-take, IsBytes-after}
+use Rattle.wire.specs.laws.Reader.{IsBytes-take, IsBytes-after}
 use Rattle.script.specs.laws.Grammar.{IsOp, BeginsNone, IsCutShort}
 use Rattle.script.specs.Ops.{operand_len, within, op_len, ops, rest}
 use Rattle.script.specs.laws.Ops.{sized_len, operand_1, operand_2, length_taken, none-again, direct-again, bare-again, splits}

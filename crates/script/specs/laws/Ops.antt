@@ -11,7 +11,7 @@ use Rattle.std.proofs.lemmas.Grind.{common_steps}
 use Rattle.std.proofs.Math.Seq.{drop-append-add}
 use borrow.Author.Tests.{lt-ltb, le-ltb, ne_eqb}
 use Rattle.wire.specs.Grammar.{IsBytes}
-use Rattle.wire.specs.laws.Reading.{IsBytes-take, IsBytes-after}
+use Rattle.wire.specs.laws.Reader.{IsBytes-take, IsBytes-after}
 use Rattle.script.specs.Op.{op_pushdata1, op_pushdata2, op_pushdata4, number_of, pushed_of}
 use Rattle.script.specs.laws.Grammar.{IsOp, Spells, BeginsNone}
 use Rattle.script.specs.Ops.{operand_len, within, op_len, cut_first, ops_within, ops, rest}

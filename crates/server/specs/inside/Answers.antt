@@ -12,10 +12,10 @@ use Rattle.curve.specs.Lines.{lines}
 use Rattle.curve.specs.Triple.{Triple}
 use Rattle.txn.specs.declared.outpoint.OutPoint.{OutPoint}
 use Rattle.block.specs.declared.block.Block.{Block}
-use Rattle.block.specs.Decoding.{block_of_bytes}
+use Rattle.block.specs.BlockOfBytes.{block_of_bytes}
 use Rattle.block.specs.Genesis.{genesis}
 use Rattle.block.specs.Grammar as grammar
-use Rattle.block.specs.Stored.{genesis_alone}
+use Rattle.block.specs.StoredBlock.{genesis_alone}
 use Rattle.coins.specs.declared.coin.Coin.{Coin}
 use Rattle.tree.specs.Branches.{Blocks, block_at, height, place_of}
 use Rattle.tree.specs.Names.{names}

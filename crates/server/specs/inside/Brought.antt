@@ -1,7 +1,7 @@
 -- The blocks that a history's submissions brought.
 use Rattle.std.specs.Prelude.{◌≡◌, ◌<◌, ◌⊎◌, ℕ, suc, Bool, true, false, List, [], ◌∷◌, length, Option, None, Some}
 use Rattle.block.specs.declared.block.Block.{Block}
-use Rattle.block.specs.Decoding.{block_of_bytes}
+use Rattle.block.specs.BlockOfBytes.{block_of_bytes}
 use Rattle.block.specs.Identity.{id_of}
 use Rattle.tree.specs.Branches.{Blocks, place_of}
 use Rattle.tree.specs.Limits.{max_blocks}

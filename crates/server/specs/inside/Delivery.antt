@@ -3,7 +3,7 @@ use Rattle.std.specs.Prelude.{◌≡◌, ◌+◌, ℕ, List, length}
 use mathlib.Core.List.{IsPrefix}
 use Rattle.durable.specs.declared.log.Log.{Log}
 use Rattle.durable.specs.Crash.{Event}
-use Rattle.durable.specs.Keeping.{KeepsBetween}
+use Rattle.durable.specs.KeptSteps.{KeepsBetween}
 use Rattle.durable.specs.Log.{history, heard}
 
 -- The first log's history begins the second's, which a crash at any moment between them leaves kept.

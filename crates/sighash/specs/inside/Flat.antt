@@ -4,7 +4,7 @@ use denote.Struct.Props as logic
 use Rattle.wire.specs.Grammar.{number, sized_bytes, counted_list}
 use Rattle.txn.specs.declared.tx.Tx.{Tx}
 use Rattle.txn.specs.Grammar.{output}
-use Rattle.sighash.specs.inside.Beginning.{beginning}
+use Rattle.sighash.specs.inside.MessageFront.{beginning}
 
 -- what is behind the inputs
 abbrev pub behind : Tx → List ℕ

@@ -11,7 +11,7 @@ use Rattle.coins.specs.declared.coin.Coin.{Coin}
 use Rattle.coins.specs.Coins.{Coins, same}
 use Rattle.coins.specs.laws.Lookups.{total_order, same-true, same-self, same-sym, entry_for}
 use Rattle.undo.specs.Effect.{without, with_coins}
-use Rattle.undo.specs.laws.Reverting.{AreCoins, AreNew}
+use Rattle.undo.specs.laws.Reversal.{AreCoins, AreNew}
 
 gone : (a b : Bool) (o : Option Coin) → cond b None (cond a None o) ≡ cond (a || b) None o
 gone true true o = refl

@@ -9,7 +9,7 @@ use Rattle.block.specs.declared.block.Block.{Block}
 use Rattle.curve.specs.Triple.{Triples}
 use Rattle.curve.specs.Known.{Agrees, Verdicts, Under}
 use Rattle.coins.specs.Changes.{after_changes}
-use Rattle.coins.specs.laws.Changing.{laid-changes}
+use Rattle.coins.specs.laws.Changes.{laid-changes}
 use Rattle.tree.specs.Branches.{height}
 use Rattle.tree.specs.Limits.{max_blocks}
 use Rattle.tree.specs.State.{State, opening}

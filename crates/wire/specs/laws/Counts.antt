@@ -6,10 +6,10 @@ use Rattle.byteorder.specs.Endian.{little_number, little_bytes}
 use Rattle.byteorder.specs.Numbers.{length-bytes_low_first, little_from-lt}
 use Rattle.wire.specs.declared.fault.WireFault.{WireFault}
 use Rattle.wire.specs.declared.fault.WireFault.TheVariants.{Short, LongForm, TooLarge}
-use Rattle.wire.specs.Spelling.{limit, IsForm, compact_size}
+use Rattle.wire.specs.Numbers.{limit, IsForm, compact_size}
 use Rattle.wire.specs.Grammar.{IsBytes, Grammar, CountFaulty, count, piece, times, counted_list, sized_bytes}
-use Rattle.wire.specs.computed.Reading.{Part, piece_at, long_at, compact_at, many_at, counted_at, sized_at}
-use Rattle.wire.specs.laws.Reading.{Decides, Found, Refused, IsWide, wide2, wide4, wide8, number_decides, piece_decides, times_decides, after_decides}
+use Rattle.wire.specs.computed.Reader.{Part, piece_at, long_at, compact_at, many_at, counted_at, sized_at}
+use Rattle.wire.specs.laws.Reader.{Decides, Found, Refused, IsWide, wide2, wide4, wide8, number_decides, piece_decides, times_decides, after_decides}
 
 -- ---- the shortest form, by the size of the number
 

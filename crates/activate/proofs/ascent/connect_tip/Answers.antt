@@ -12,11 +12,11 @@ use Rattle.tree.specs.Branches.{Blocks, parent_at, height}
 use Rattle.tree.specs.laws.Parents.{height-parent}
 use Rattle.chain.specs.Regtest.{medians_of, regtest}
 use Rattle.activate.specs.CoreState.{branch_blocks}
-use Rattle.activate.specs.laws.Climbing.{length-parent, setting-next, setting_under, fault-next, undo-next, coins-next, medians-next}
+use Rattle.activate.specs.laws.WalkUp.{length-parent, setting-next, setting_under, fault-next, undo-next, coins-next, medians-next}
 use Rattle.chain.specs.laws.Kept.{alone-at}
 use Rattle.chain.specs.laws.Medians.{length-medians}
 use Rattle.std.proofs.lemmas.Result.{err_from_is_err_and}
-use Rattle.activate.proofs.Wanted.{either_way, wanted_at}
+use Rattle.activate.proofs.WantsOfBlocks.{either_way, wanted_at}
 use Rattle.activate.proofs.ascent.connect_tip.Goals as goal
 
 ok_part : {T E : Type 0} (P : T → Type 0) (r : Result T E) (x : T) → r ≡ Ok x → IfOk r P → P x

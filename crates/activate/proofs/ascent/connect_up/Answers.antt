@@ -13,9 +13,9 @@ use Rattle.activate.specs.CoreState.{branch_blocks, coins_after}
 use Rattle.activate.specs.Lookups.{undo_at}
 use Rattle.activate.specs.Wants.{AreWantedAt}
 use Rattle.activate.specs.inside.Ascents.{top_of, AreMore, AreWantedAbove, IsApplied, LeadsUp}
-use Rattle.activate.specs.laws.Climbing.{is-next, rest-next, parts-back, counted-back, valid-next, first-next}
+use Rattle.activate.specs.laws.WalkUp.{is-next, rest-next, parts-back, counted-back, valid-next, first-next}
 use Rattle.std.proofs.lemmas.Result.{err_from_is_err_and}
-use Rattle.activate.proofs.Wanted.{where_none, where_some, wanted_above, wanted_more, wanted_none}
+use Rattle.activate.proofs.WantsOfBlocks.{where_none, where_some, wanted_above, wanted_more, wanted_none}
 use Rattle.activate.proofs.ascent.connect_up.Goals as goal
 
 ok_part : {T E : Type 0} (P : T → Type 0) (r : Result T E) (x : T) → r ≡ Ok x → IfOk r P → P x

@@ -1,6 +1,6 @@
 use Rattle.std.specs.Prelude.{MatchOption}
 use Rattle.std.proofs.Common.{sym, ap, ◌∙◌}
-use Rattle.block.specs.Decoding.{block_of_bytes}
+use Rattle.block.specs.BlockOfBytes.{block_of_bytes}
 use Rattle.block.specs.Grammar.{header}
 use Rattle.activate.proofs.headers.header_bytes.Goals as goal
 

@@ -12,7 +12,7 @@ use Rattle.activate.specs.declared.path.FailedTry.{FailedTry}
 use Rattle.chain.specs.Rules.{Rules}
 use Rattle.activate.specs.inside.Paths.{FailsAt}
 use Rattle.activate.specs.inside.Preparation.{IsFailedTry}
-use Rattle.activate.specs.laws.Noting.{above-on, flaw_noted}
+use Rattle.activate.specs.laws.TryNotes.{above-on, flaw_noted}
 use Rattle.activate.proofs.try_flags.flag_failed_try.Goals as goal
 
 -- a list by the parts that it has when it is turned round

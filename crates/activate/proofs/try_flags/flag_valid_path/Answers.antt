@@ -2,7 +2,7 @@ use Rattle.std.proofs.Common.{ℕ, List, sym, ap, ◌∙◌}
 use Rattle.tree.specs.Branches.{has, places}
 use Rattle.tree.specs.State.{union_where}
 use Rattle.tree.specs.laws.Branches.{on-bounds}
-use Rattle.activate.specs.laws.Noting.{above-on, way_noted}
+use Rattle.activate.specs.laws.TryNotes.{above-on, way_noted}
 use Rattle.activate.proofs.try_flags.flag_valid_path.Goals as goal
 
 pub see_all-requires-clause-kept : goal.see_all-requires-clause-kept

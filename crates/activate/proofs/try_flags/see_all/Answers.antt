@@ -3,7 +3,7 @@ use Rattle.block.specs.declared.block.Block.{Block}
 use Rattle.tree.specs.Branches.{Blocks}
 use Rattle.tree.specs.State.{State, with_seen}
 use Rattle.tree.specs.laws.Walks.{has_at}
-use Rattle.activate.specs.laws.Noting.{joined_next}
+use Rattle.activate.specs.laws.TryNotes.{joined_next}
 use Rattle.activate.proofs.try_flags.see_all.Goals as goal
 
 pub see-requires : goal.see-requires

@@ -1,5 +1,5 @@
 use Rattle.std.proofs.Common.{rules, ◌≡◌, ◌<◌, ◌++◌, refl, sym, ◌∙◌}
-use Rattle.wire.specs.Spelling.{limit}
+use Rattle.wire.specs.Numbers.{limit}
 use Rattle.block.specs.Blk.{magic}
 use Rattle.block.proofs.Records.{head_is}
 use Rattle.block.proofs.blk.block_len.Goals as goal

@@ -1,4 +1,4 @@
-use Rattle.block.proofs.OneReading.{run_splits}
+use Rattle.block.proofs.UniqueRecord.{run_splits}
 use Rattle.block.proofs.laws.a_run_gives_the_records.Goals as goal
 
 pub returns : goal.returns

@@ -1,7 +1,7 @@
 use Rattle.txn.specs.Grammar.{transaction}
-use Rattle.txn.specs.computed.Reading.{tx_at}
-use Rattle.txn.specs.laws.Reading.{transaction_decides}
-use Rattle.block.proofs.Spelled.{read-spelled}
+use Rattle.txn.specs.computed.Reader.{tx_at}
+use Rattle.txn.specs.laws.Reader.{transaction_decides}
+use Rattle.block.proofs.BlockBytes.{read-spelled}
 use Rattle.block.proofs.laws.a_transaction_that_is_read_is_spelled.Goals as goal
 
 pub returns : goal.returns

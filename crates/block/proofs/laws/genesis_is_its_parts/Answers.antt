@@ -1,5 +1,5 @@
 use Rattle.std.proofs.Common.{refl}
-use Rattle.wire.specs.Spelling.{compact_size}
+use Rattle.wire.specs.Numbers.{compact_size}
 use Rattle.sha2.specs.Sha256.{first_words, schedule, rounds, compress, hash_after, digest_bytes, sha256}
 use Rattle.block.proofs.laws.genesis_is_its_parts.Goals as goal
 

@@ -1,7 +1,7 @@
-use Rattle.wire.specs.laws.Reading.{front_law}
+use Rattle.wire.specs.laws.Reader.{front_law}
 use Rattle.block.specs.Grammar.{block}
-use Rattle.block.specs.computed.Reading.{block_at}
-use Rattle.block.specs.laws.Reading.{block_decides}
+use Rattle.block.specs.computed.Reader.{block_at}
+use Rattle.block.specs.laws.Reader.{block_decides}
 use Rattle.block.proofs.laws.no_front.Goals as goal
 
 pub returns : goal.returns

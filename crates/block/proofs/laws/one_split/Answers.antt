@@ -1,4 +1,4 @@
-use Rattle.block.proofs.OneReading.{one_split}
+use Rattle.block.proofs.UniqueRecord.{one_split}
 use Rattle.block.proofs.laws.one_split.Goals as goal
 
 pub returns : goal.returns

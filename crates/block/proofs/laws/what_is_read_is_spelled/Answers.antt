@@ -1,4 +1,4 @@
-use Rattle.block.proofs.Spelled.{decoded-is-spelled}
+use Rattle.block.proofs.BlockBytes.{decoded-is-spelled}
 use Rattle.block.proofs.laws.what_is_read_is_spelled.Goals as goal
 
 pub returns : goal.returns

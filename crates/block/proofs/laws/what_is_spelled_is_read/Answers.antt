@@ -1,6 +1,6 @@
 use Rattle.std.proofs.Common.{refl}
 use Rattle.block.specs.Grammar.{block}
-use Rattle.block.specs.laws.Decoding.{decoded-spelled}
+use Rattle.block.specs.laws.BlockBytes.{decoded-spelled}
 use Rattle.block.proofs.laws.what_is_spelled_is_read.Goals as goal
 
 pub returns : goal.returns

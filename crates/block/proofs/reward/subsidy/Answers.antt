@@ -1,6 +1,6 @@
 use Rattle.std.proofs.Common.{◌/◌, ◌^◌}
 use Rattle.std.proofs.lemmas.Bool.{lt-ltb}
-use Rattle.block.proofs.Halving.{halved_is, small_quotient}
+use Rattle.block.proofs.Halves.{halved_is, small_quotient}
 use Rattle.block.proofs.reward.subsidy.Goals as goal
 
 pub returns : goal.returns

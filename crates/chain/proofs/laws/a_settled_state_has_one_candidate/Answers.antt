@@ -1,4 +1,4 @@
-use Rattle.chain.specs.laws.Settled.{one_candidate, best_usable}
+use Rattle.chain.specs.laws.SettledState.{one_candidate, best_usable}
 use Rattle.chain.proofs.laws.a_settled_state_has_one_candidate.Goals as goal
 
 pub returns-clause-only : goal.returns-clause-only

@@ -6,7 +6,7 @@ use Rattle.coins.specs.Coins.{Coin, Coins, outpoint_cmp, same}
 use Rattle.coins.specs.Entries.{Entries, named, own_coin}
 use Rattle.coins.specs.Changes.{Changes, after_changes}
 use Rattle.coins.specs.inside.Changes.{goers}
-use Rattle.coins.proofs.Merging.{none_from}
+use Rattle.coins.proofs.LayersMerge.{none_from}
 use Rattle.coins.proofs.Rooms.{goers_distinct, laid_first, laid_nothing, rest_distinct}
 use Rattle.coins.proofs.batch_write.take_away.Goals as goal
 

@@ -1,5 +1,5 @@
 use Rattle.std.proofs.Common.{rules}
-use Rattle.coins.proofs.Listing.{changing-from_retain}
+use Rattle.coins.proofs.LayerChanges.{changing-from_retain}
 use Rattle.coins.proofs.changes.changing.Goals as goal
 
 pub returns-clause-changing : goal.returns-clause-changing

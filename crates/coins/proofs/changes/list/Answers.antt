@@ -3,7 +3,7 @@ use Rattle.std.proofs.lemmas.List.{append_assoc}
 use Rattle.coins.specs.Coins.{Coin}
 use Rattle.coins.specs.Entries.{Entries, named}
 use Rattle.coins.specs.Changes.{Changes}
-use Rattle.coins.proofs.Naming.{named_one, all_of}
+use Rattle.coins.proofs.EntryNames.{named_one, all_of}
 use Rattle.coins.proofs.changes.list.Goals as goal
 
 pub loop-at-init : goal.loop-at-init

@@ -1,5 +1,5 @@
 use Rattle.std.proofs.Common.{sym, ◌∙◌}
-use Rattle.coins.proofs.Following.{few_follow, first_follows, many_follow, not_less, second_follows}
+use Rattle.coins.proofs.NextCoins.{few_follow, first_follows, many_follow, not_less, second_follows}
 use Rattle.coins.proofs.coin_map.after_among.Goals as goal
 
 pub returns-in_default : goal.returns-in_default

@@ -1,7 +1,7 @@
 use Rattle.std.proofs.Common.{◌≡◌, Some, sym, ap, ◌∙◌}
 use Rattle.std.specs.FinMap as map
 use Rattle.coins.specs.Coins.{Coin, Coins, few_and_many}
-use Rattle.coins.proofs.Moving.{brought, there}
+use Rattle.coins.proofs.MovedCoins.{brought, there}
 use Rattle.coins.proofs.Rooms.{none_from}
 use Rattle.coins.proofs.coin_map.bring_one.Goals.{then-not-has+in_ok-copy+in_ok-insert, else-not-has}
 use Rattle.coins.proofs.coin_map.bring_one.Goals as goal

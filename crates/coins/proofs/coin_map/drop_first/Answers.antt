@@ -1,4 +1,4 @@
-use Rattle.coins.proofs.Moving.{on_some, popped}
+use Rattle.coins.proofs.MovedCoins.{on_some, popped}
 use Rattle.coins.proofs.coin_map.drop_first.Goals as goal
 
 pub returns-clause-changed : goal.returns-clause-changed

@@ -1,6 +1,6 @@
 use Rattle.std.proofs.Common.{sym, ap, ◌∙◌}
 use Rattle.coins.specs.laws.Lookups.{entry_for}
-use Rattle.coins.proofs.Moving.{first, got, put_many}
+use Rattle.coins.proofs.MovedCoins.{first, got, put_many}
 use Rattle.coins.proofs.coin_map.exchange_among.Goals as goal
 
 pub returns-in-Some-clause-ok : goal.returns-in-Some-clause-ok

@@ -1,7 +1,7 @@
 use Rattle.std.proofs.Common.{sym, ap, ◌∙◌}
 use Rattle.std.specs.Option.{option_copied}
 use Rattle.coins.specs.laws.Lookups.{entry_for}
-use Rattle.coins.proofs.Moving.{first, got}
+use Rattle.coins.proofs.MovedCoins.{first, got}
 use Rattle.coins.proofs.coin_map.find_among.Goals as goal
 
 pub returns-in-None : goal.returns-in-None

@@ -1,4 +1,4 @@
-use Rattle.coins.proofs.Moving.{gone_many}
+use Rattle.coins.proofs.MovedCoins.{gone_many}
 use Rattle.coins.proofs.coin_map.remove_among.Goals as goal
 
 pub returns : goal.returns

@@ -2,7 +2,7 @@ use Rattle.std.proofs.Common.{◌≡◌, None, sym, ap, ◌∙◌}
 use Rattle.std.specs.Prelude.{is_some}
 use Rattle.std.specs.FinMap as map
 use Rattle.coins.specs.laws.Lookups.{entry_for}
-use Rattle.coins.proofs.Moving.{first, got, over_few, over_many}
+use Rattle.coins.proofs.MovedCoins.{first, got, over_few, over_many}
 use Rattle.coins.proofs.Rooms.{given_ok, none_from}
 use Rattle.coins.proofs.coin_map.replace_among.Goals as goal
 

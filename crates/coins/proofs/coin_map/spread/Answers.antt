@@ -1,6 +1,6 @@
 use Rattle.std.proofs.Common.{sym, ap, ◌∙◌, Option}
 use Rattle.coins.specs.Coins.{Coins, few_and_many}
-use Rattle.coins.proofs.Moving.{opened}
+use Rattle.coins.proofs.MovedCoins.{opened}
 use Rattle.coins.proofs.coin_map.spread.Goals as goal
 
 pub returns-in_ok-new-in-None-clause-coins : goal.returns-in_ok-new-in-None-clause-coins

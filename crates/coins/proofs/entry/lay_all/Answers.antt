@@ -8,7 +8,7 @@ use Rattle.coins.specs.declared.entry.CacheEntry.{CacheEntry}
 use Rattle.coins.specs.Coins.{same, outpoint_cmp}
 use Rattle.coins.specs.Entries.{Entries, entry_at}
 use Rattle.coins.specs.inside.Entries.{HasRoom, merge_entry_at}
-use Rattle.coins.proofs.Merging.{lay_room, lay_rest, lay_step}
+use Rattle.coins.proofs.LayersMerge.{lay_room, lay_rest, lay_step}
 use Rattle.coins.proofs.entry.lay_all.Goals as goal
 
 pub loop-at-init : goal.loop-at-init

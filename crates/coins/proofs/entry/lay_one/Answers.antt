@@ -2,7 +2,7 @@ use Rattle.std.proofs.Common.{subst, sym}
 use Rattle.coins.specs.declared.entry.CacheEntry.{CacheEntry}
 use Rattle.coins.specs.Entries.{entry_at}
 use Rattle.coins.specs.inside.Entries.{Written, merge_entry}
-use Rattle.coins.proofs.Merging.{written_same}
+use Rattle.coins.proofs.LayersMerge.{written_same}
 use Rattle.coins.proofs.entry.lay_one.Goals as goal
 
 pub returns-in-Clean : goal.returns-in-Clean

@@ -3,7 +3,7 @@ use Rattle.std.proofs.lemmas.List.{append_assoc}
 use Rattle.coins.specs.declared.entry.CacheEntry.TheVariants.{Clean}
 use Rattle.coins.specs.laws.Lookups.{same-self}
 use Rattle.coins.specs.Entries.{Entries, entry_at}
-use Rattle.coins.proofs.Merging.{pad_same, pad_write, room_write, room_push, none_from, some_from}
+use Rattle.coins.proofs.LayersMerge.{pad_same, pad_write, room_write, room_push, none_from, some_from}
 use Rattle.coins.proofs.entry.make_room.Goals as goal
 
 pub loop-at-init : goal.loop-at-init

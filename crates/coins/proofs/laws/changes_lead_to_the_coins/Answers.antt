@@ -1,4 +1,4 @@
-use Rattle.coins.specs.laws.Changing.{laid-changes}
+use Rattle.coins.specs.laws.Changes.{laid-changes}
 use Rattle.coins.proofs.laws.changes_lead_to_the_coins.Goals as goal
 
 pub returns : goal.returns

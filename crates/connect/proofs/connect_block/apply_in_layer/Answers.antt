@@ -9,7 +9,7 @@ use Rattle.connect.specs.laws.Stops.{wanted_weaker}
 use Rattle.coins.specs.declared.coin.Coin.{Coin}
 use Rattle.coins.specs.Coins.{Coins}
 use Rattle.rules.specs.declared.in_force.InForce.{InForce}
-use Rattle.connect.specs.Setting.{Setting, setting}
+use Rattle.connect.specs.BlockContext.{Setting, setting}
 use Rattle.connect.specs.Turns.{undo_of}
 use Rattle.connect.specs.Faults.{connect_rules}
 use Rattle.connect.specs.Scripts.{Check, flags_of, IsConnectFault, IsFirstRefused, AreWantedAmong, AreWantedByBlock}

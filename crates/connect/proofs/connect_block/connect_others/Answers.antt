@@ -8,7 +8,7 @@ use Rattle.txn.specs.First.{first_broken}
 use Rattle.txn.specs.Identity.{id_of}
 use Rattle.coins.specs.declared.coin.Coin.{Coin}
 use Rattle.coins.specs.Coins.{Coins, Layer}
-use Rattle.connect.specs.Setting.{setting}
+use Rattle.connect.specs.BlockContext.{setting}
 use Rattle.connect.specs.Turns.{Turn, turn, turns, effect, spent_in, left_by, full_count}
 use Rattle.connect.specs.Faults.{fee, overwrites, turn_rules}
 use Rattle.connect.specs.inside.Turns.{IsLawful, IsReason}

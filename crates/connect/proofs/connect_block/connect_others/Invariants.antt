@@ -3,7 +3,7 @@ use Rattle.std.specs.List.{AllByRecursion, flat_map, fold, list_any}
 use Rattle.txn.specs.First.{first_broken}
 use Rattle.txn.specs.Identity.{ids_of}
 use Rattle.rules.specs.Alone.{max_block_sigops}
-use Rattle.connect.specs.Setting.{setting}
+use Rattle.connect.specs.BlockContext.{setting}
 use Rattle.connect.specs.Turns.{spent_in, turns, effect}
 use Rattle.connect.specs.Faults.{fee, fees, overwrites, turn_rules}
 use Rattle.connect.specs.inside.Turns.{IsLawful}

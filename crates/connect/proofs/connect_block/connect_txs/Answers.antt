@@ -9,12 +9,12 @@ use Rattle.txn.specs.declared.reason.Reason.TheVariants.{CoinbaseAmount}
 use Rattle.txn.specs.First.{first_broken}
 use Rattle.block.specs.Reward.{subsidy_of}
 use Rattle.coins.specs.Coins.{Coins, Layer}
-use Rattle.connect.specs.Setting.{Setting, setting}
+use Rattle.connect.specs.BlockContext.{Setting, setting}
 use Rattle.connect.specs.Turns.{turns, effect, spent_in}
 use Rattle.connect.specs.Faults.{overwrites, fees, reward_of, connect_rules}
 use Rattle.connect.specs.inside.Turns.{IsReason}
 use Rattle.connect.proofs.Blocks.{at_clash, at_turn, after_turns}
-use Rattle.connect.proofs.Parted.{others, parted, none_overwrites, at_coinbase, begun}
+use Rattle.connect.proofs.BlockParts.{others, parted, none_overwrites, at_coinbase, begun}
 use Rattle.connect.proofs.connect_block.connect_txs.Goals as goal
 
 pub returns-then-is_overwriting-clause-fault : goal.returns-then-is_overwriting-clause-fault

@@ -2,7 +2,7 @@ use Rattle.std.proofs.Common.{List, sym, ap, subst, ◌∙◌}
 use Rattle.txn.specs.declared.tx.Tx.{Tx}
 use Rattle.coins.specs.Coins.{Coins, Layer}
 use Rattle.connect.specs.inside.AppliedTransactions.{IsBlockApplied}
-use Rattle.connect.specs.laws.Applying.{block_applied}
+use Rattle.connect.specs.laws.Application.{block_applied}
 use Rattle.connect.proofs.Back.{on_ok}
 use Rattle.connect.proofs.disconnect_block.disconnect.Goals as goal
 

@@ -1,7 +1,7 @@
 use Rattle.std.proofs.Common.{List, sym, subst}
 use Rattle.txn.specs.declared.tx.Tx.{Tx}
 use Rattle.connect.specs.inside.AppliedTransactions.{IsBlockApplied}
-use Rattle.connect.specs.laws.Applying.{block_applied}
+use Rattle.connect.specs.laws.Application.{block_applied}
 use Rattle.connect.proofs.disconnect_block.disconnect_in_layer.Goals as goal
 
 pub revert_txs-requires-clause-applied : goal.revert_txs-requires-clause-applied

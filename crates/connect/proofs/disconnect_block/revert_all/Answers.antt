@@ -1,7 +1,7 @@
 use Rattle.std.proofs.Common.{◌≡◌, ℕ, ◌+◌, ◌-◌, length, take, ap, ◌∙◌, arith}
 use Rattle.coins.specs.Coins.{Coins, Layer}
 use Rattle.connect.specs.Turns.{effect}
-use Rattle.connect.specs.laws.Folding.{effect_none}
+use Rattle.connect.specs.laws.Turns.{effect_none}
 use Rattle.connect.specs.inside.AppliedTransactions.{AreApplied}
 use Rattle.connect.proofs.Back.{one_each, back_at}
 use Rattle.connect.proofs.disconnect_block.revert_all.Goals as goal

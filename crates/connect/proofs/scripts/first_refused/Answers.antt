@@ -7,10 +7,10 @@ use Rattle.curve.specs.Known.{Agrees}
 use Rattle.interp.specs.declared.flags.Flags.{Flags}
 use Rattle.interp.specs.declared.job.Job.{Job}
 use Rattle.interp.specs.Question.{question_of}
-use Rattle.queue.specs.laws.Failing.{IsFirstFailure}
+use Rattle.queue.specs.laws.FirstFailure.{IsFirstFailure}
 use Rattle.queue.specs.Jobs.{verdict_at}
-use Rattle.queue.specs.Telling.{AreTheWants}
-use Rattle.queue.specs.laws.Failing.{first-under}
+use Rattle.queue.specs.FirstAnswer.{AreTheWants}
+use Rattle.queue.specs.laws.FirstFailure.{first-under}
 use Rattle.connect.specs.Scripts.{Check, flags_of, IsFirstRefused, AreWantedAmong}
 use Rattle.connect.specs.inside.ScriptLists.{checks_from, checks_in}
 use Rattle.connect.proofs.Checks.{none_refused, first_refused_is, below_of, told_wanted}

@@ -4,7 +4,7 @@ use Rattle.std.proofs.lemmas.List.{append_assoc, append-nil}
 use Rattle.std.proofs.lemmas.List.Sums.{sum_by-cons}
 use Rattle.txn.specs.declared.tx.Tx.{Tx}
 use Rattle.coins.specs.declared.coin.Coin.{Coin}
-use Rattle.queue.specs.laws.Lending.{lent_of}
+use Rattle.queue.specs.laws.LentMidstates.{lent_of}
 use Rattle.connect.specs.Scripts.{Check, input_checks}
 use Rattle.connect.specs.inside.ScriptLists.{checks_from, checks_in}
 use Rattle.connect.proofs.Steps.{drop_item, drop_of_length-le, item_of}

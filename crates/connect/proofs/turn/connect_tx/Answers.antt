@@ -8,11 +8,11 @@ use Rattle.txn.specs.Identity.{id_of}
 use Rattle.coins.specs.declared.coin.Coin.{Coin}
 use Rattle.coins.specs.Coins.{Coins, Layer}
 use Rattle.undo.specs.Effect.{IsApplicable, after}
-use Rattle.connect.specs.Setting.{Setting, setting}
+use Rattle.connect.specs.BlockContext.{Setting, setting}
 use Rattle.connect.specs.Turns.{turn}
 use Rattle.connect.specs.Faults.{turn_rules}
 use Rattle.connect.specs.inside.Turns.{HasFound, IsLawful}
-use Rattle.connect.specs.laws.Applying.{applies}
+use Rattle.connect.specs.laws.Application.{applies}
 use Rattle.connect.specs.laws.Broken.{IsClear, at_clash, none_broken}
 use Rattle.connect.proofs.turn.connect_tx.Goals as goal
 

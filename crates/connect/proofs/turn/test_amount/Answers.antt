@@ -3,7 +3,7 @@ use Rattle.std.specs.Int.{w128}
 use Rattle.std.proofs.lemmas.Int.{ints, to_z-of_z}
 use Rattle.txn.specs.Check.{total}
 use Rattle.coins.specs.Coins.{sum_of_values}
-use Rattle.connect.specs.Setting.{setting}
+use Rattle.connect.specs.BlockContext.{setting}
 use Rattle.connect.specs.Turns.{turn, spent_in}
 use Rattle.connect.specs.laws.Broken.{UpToAge, at_early, at_amount}
 use Rattle.connect.proofs.Turns.{early_is, amount_is}

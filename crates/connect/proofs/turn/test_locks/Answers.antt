@@ -1,5 +1,5 @@
 use Rattle.std.proofs.Common.{◌≡◌, ◌+◌, ◌-◌, ◌^◌, ◌≤◌, min, ap, ◌∙◌, arith}
-use Rattle.connect.specs.Setting.{setting}
+use Rattle.connect.specs.BlockContext.{setting}
 use Rattle.connect.specs.Turns.{turn, spent_in, plain_count, inner_sigops}
 use Rattle.connect.specs.laws.Broken.{UpToLocks, at_locked, at_full}
 use Rattle.connect.proofs.Turns.{exact_count, few_counted, many_counted, locked_is}

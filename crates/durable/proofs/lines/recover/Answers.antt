@@ -1,8 +1,8 @@
 use Rattle.std.proofs.Common.{◌∙◌, sym, ap, subst}
-use Rattle.durable.specs.Keeping.{told, KeepsBetween}
+use Rattle.durable.specs.KeptSteps.{told, KeepsBetween}
 use Rattle.durable.proofs.Whole.{lines_rest}
-use Rattle.durable.proofs.Keeping.{started}
-use Rattle.durable.proofs.Opening.{cut_told, cut_between, sync_told, synced_between}
+use Rattle.durable.proofs.FileCalls.{started}
+use Rattle.durable.proofs.CutEnd.{cut_told, cut_between, sync_told, synced_between}
 use Rattle.durable.proofs.lines.recover.Goals as goal
 use Rattle.durable.proofs.lines.recover.Goals.{then-found-bytes+in_ok-cut+in_ok-sync, else-found-bytes}
 

@@ -1,7 +1,7 @@
 -- The input is there, and so is the stack.
 use Rattle.std.proofs.Common.{inl, sym, ap, ◌∙◌, arith}
-use Rattle.txn.specs.computed.Reading.{tx_at}
-use Rattle.ffi.proofs.Asked.{told_at}
+use Rattle.txn.specs.computed.Reader.{tx_at}
+use Rattle.ffi.proofs.ToldPart.{told_at}
 use Rattle.ffi.proofs.evaluation.ffi_eval_script.Goals as goal
 
 pub returns : goal.returns

@@ -1,7 +1,7 @@
 use Rattle.std.proofs.lemmas.Result.{err_from_is_err_and}
 use Rattle.txn.specs.Fault.{wire_fault_of}
-use Rattle.wire.specs.computed.Reading.{many_at}
-use Rattle.txn.specs.computed.Reading.{tx_at}
+use Rattle.wire.specs.computed.Reader.{many_at}
+use Rattle.txn.specs.computed.Reader.{tx_at}
 use Rattle.wire.specs.laws.Loop.{goes_on, ends, is_done}
 use Rattle.ffi.proofs.front.each_tx.Goals as goal
 

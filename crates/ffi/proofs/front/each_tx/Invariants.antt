@@ -1,6 +1,6 @@
 use Rattle.std.proofs.Common.{◌≡◌, ◌-◌}
-use Rattle.wire.specs.computed.Reading.{many_at}
-use Rattle.txn.specs.computed.Reading.{tx_at}
+use Rattle.wire.specs.computed.Reader.{many_at}
+use Rattle.txn.specs.computed.Reader.{tx_at}
 use Rattle.wire.specs.laws.Loop.{with_front}
 use Rattle.ffi.proofs.front.each_tx.Given as goal
 

@@ -1,7 +1,7 @@
 -- The input is there, and is judged by what both tables say.
 use Rattle.std.proofs.Common.{inl, sym, ap, ◌∙◌, arith}
-use Rattle.txn.specs.computed.Reading.{tx_at}
-use Rattle.ffi.proofs.Asked.{told_at}
+use Rattle.txn.specs.computed.Reader.{tx_at}
+use Rattle.ffi.proofs.ToldPart.{told_at}
 use Rattle.ffi.proofs.known.ffi_verify_known.Goals as goal
 
 pub returns : goal.returns

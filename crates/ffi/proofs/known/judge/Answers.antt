@@ -6,7 +6,7 @@ use Rattle.curve.specs.Known.{Under, verdict_in}
 use Rattle.interp.specs.declared.flags.Flags.{Flags}
 use Rattle.interp.specs.Rules.{Accepts}
 use Rattle.interp.specs.laws.Answers.{tells-says, tells-stops}
-use Rattle.interp.specs.laws.Verifying.{said-right}
+use Rattle.interp.specs.laws.InputVerdict.{said-right}
 use Rattle.ffi.proofs.known.judge.Goals as goal
 
 pub returns-clause-answer : goal.returns-clause-answer

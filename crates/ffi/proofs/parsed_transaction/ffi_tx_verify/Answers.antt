@@ -1,6 +1,6 @@
 -- The transaction that was in the slot is the one that is asked.
 use Rattle.std.proofs.Common.{subst}
-use Rattle.sighash.specs.declared.precomputed.PrecomputedTx.{PrecomputedTx}
+use Rattle.sighash.specs.declared.precomputed_tx.PrecomputedTx.{PrecomputedTx}
 use Rattle.ffi.specs.ParsedTransaction.{AreInputsNamed, told_all}
 use Rattle.ffi.proofs.parsed_transaction.ffi_tx_verify.Goals as goal
 

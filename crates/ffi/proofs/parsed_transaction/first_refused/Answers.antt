@@ -4,7 +4,7 @@ use Rattle.txn.specs.declared.tx.Tx.{Tx}
 use Rattle.curve.specs.Known.{Known, verdict_in}
 use Rattle.interp.specs.Answer.{Says}
 use Rattle.interp.specs.Question.{question}
-use Rattle.interp.specs.computed.Named.{verify_script}
+use Rattle.interp.specs.computed.NamedFailures.{verify_script}
 use Rattle.interp.specs.declared.flags.Flags.{Flags}
 use Rattle.connect.proofs.Steps.{drop_item}
 use Rattle.ffi.specs.NamedFailures.{flags_in}

@@ -4,7 +4,7 @@ use Rattle.std.specs.Result.{result_err}
 use Rattle.txn.specs.First.{first_broken}
 use Rattle.coins.specs.Coins.{Coins}
 use Rattle.rules.specs.Alone.{alone_rules}
-use Rattle.connect.specs.Setting.{setting}
+use Rattle.connect.specs.BlockContext.{setting}
 use Rattle.connect.specs.Scripts.{IsBefore, IsConnectFault}
 use Rattle.ffi.proofs.Slots.{empty}
 use Rattle.ffi.proofs.utxo.effect_of.Goals as goal

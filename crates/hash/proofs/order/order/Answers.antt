@@ -1,7 +1,7 @@
 use Rattle.std.proofs.Common.{◌≡◌, ap, sym, ◌∙◌, arith}
 use Rattle.std.specs.Ordering.{nat_cmp}
 use Rattle.hash.specs.inside.Order.{word_at}
-use Rattle.hash.proofs.Comparing.{decide, pass, last}
+use Rattle.hash.proofs.ByteOrder.{decide, pass, last}
 use Rattle.hash.proofs.order.order.Goals as goal
 
 pub returns-then-x-y : goal.returns-then-x-y

@@ -1,4 +1,4 @@
-use Rattle.curve.specs.laws.Agreeing.{found_agrees}
+use Rattle.curve.specs.laws.Agreement.{found_agrees}
 use Rattle.chain.specs.Chainstate.{chainstate}
 use Rattle.chain.specs.Learnt.{found_in}
 use Rattle.histories.specs.laws.Verdicts.{legal_without}

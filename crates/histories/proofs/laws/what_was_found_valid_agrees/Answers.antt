@@ -1,4 +1,4 @@
-use Rattle.curve.specs.laws.Agreeing.{found_agrees}
+use Rattle.curve.specs.laws.Agreement.{found_agrees}
 use Rattle.chain.specs.Learnt.{found_in}
 use Rattle.histories.proofs.laws.what_was_found_valid_agrees.Goals as goal
 

@@ -1,4 +1,4 @@
-use Rattle.interp.specs.laws.Naming.{eval-same, verify-same}
+use Rattle.interp.specs.laws.FailureNames.{eval-same, verify-same}
 use Rattle.interp.proofs.laws.names_change_no_verdict.Goals as goal
 
 pub returns-clause-scripts : goal.returns-clause-scripts

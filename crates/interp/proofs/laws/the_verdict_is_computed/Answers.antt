@@ -1,4 +1,4 @@
-use Rattle.interp.specs.laws.Verifying.{accepts-right}
+use Rattle.interp.specs.laws.InputVerdict.{accepts-right}
 use Rattle.interp.proofs.laws.the_verdict_is_computed.Goals as goal
 
 pub returns : goal.returns

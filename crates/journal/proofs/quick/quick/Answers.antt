@@ -8,7 +8,7 @@ use Rattle.chain.specs.Submission.{Outcome}
 use Rattle.chain.specs.Commands.{outcome, replies_of}
 use Rattle.chain.specs.Regtest.{regtest}
 use Rattle.activate.specs.CoreState.{IsChainstate, WithCoins}
-use Rattle.curve.specs.laws.Agreeing.{table_agrees}
+use Rattle.curve.specs.laws.Agreement.{table_agrees}
 use Rattle.connect.specs.laws.AtTable.{at_table}
 use Rattle.journal.proofs.quick.quick.Goals as goal
 

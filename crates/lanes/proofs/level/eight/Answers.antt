@@ -1,7 +1,7 @@
 use Rattle.std.proofs.Common.{ℕ, List, sym, ◌∙◌, ap, arith}
 use Rattle.sha2.specs.Sha256.{compress, padding}
 use Rattle.lanes.specs.inside.Level.{pair_at}
-use Rattle.lanes.proofs.Pairing.{eight_pairs}
+use Rattle.lanes.proofs.PairsInPlace.{eight_pairs}
 use Rattle.lanes.proofs.Whole.{of_64}
 use Rattle.lanes.proofs.level.eight.Goals as goal
 

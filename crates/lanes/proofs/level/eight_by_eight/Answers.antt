@@ -1,5 +1,5 @@
 use Rattle.std.proofs.Common.{◌∙◌, arith}
-use Rattle.lanes.proofs.Pairing.{turn_more}
+use Rattle.lanes.proofs.PairsInPlace.{turn_more}
 use Rattle.lanes.proofs.level.eight_by_eight.Goals as goal
 
 pub loop-k-preserved : goal.loop-k-preserved

@@ -1,5 +1,5 @@
 use Rattle.std.proofs.Common.{arith}
-use Rattle.lanes.proofs.Pairing.{all_paired, one_more}
+use Rattle.lanes.proofs.PairsInPlace.{all_paired, one_more}
 use Rattle.lanes.proofs.level.pairs.Goals as goal
 
 pub loop-k-preserved : goal.loop-k-preserved

@@ -1,7 +1,7 @@
 use Rattle.std.proofs.Common.{◌≡◌, ◌<◌, ℕ, [], length, slice_index_or}
 use Rattle.lanes.specs.Lane.{lanes}
 use Rattle.lanes.specs.inside.Messages.{message_at}
-use Rattle.lanes.specs.inside.Padded.{block, block_count}
+use Rattle.lanes.specs.inside.PaddedBlocks.{block, block_count}
 use Rattle.lanes.proofs.many.blocks.Given as goal
 
 abbrev pub invariant-lanes : goal.invariant-lanes

@@ -2,8 +2,8 @@ use Rattle.std.proofs.Common.{◌*◌, ℕ, List, inl, inr, sym, ap, ◌∙◌, 
 use Rattle.std.proofs.lemmas.Bool.{cases_lt}
 use Rattle.sha2.specs.Sha256.{compress, word_at}
 use Rattle.lanes.specs.inside.Messages.{message_at}
-use Rattle.lanes.specs.inside.Padded.{block, block_count}
-use Rattle.lanes.proofs.Padding.{all_blocks, no_more, none_yet, one_more}
+use Rattle.lanes.specs.inside.PaddedBlocks.{block, block_count}
+use Rattle.lanes.proofs.PaddedMessage.{all_blocks, no_more, none_yet, one_more}
 use Rattle.lanes.proofs.many.hash_values.Goals as goal
 
 pub turns-init : goal.turns-init

@@ -1,7 +1,7 @@
 use Rattle.std.proofs.Common.{◌≡◌, ◌<◌, ℕ}
 use Rattle.lanes.specs.Lane.{lanes}
 use Rattle.lanes.specs.inside.Messages.{message_at}
-use Rattle.lanes.specs.inside.Padded.{after_blocks}
+use Rattle.lanes.specs.inside.PaddedBlocks.{after_blocks}
 use Rattle.lanes.specs.State.{lane}
 use Rattle.lanes.proofs.many.hash_values.Given as goal
 

@@ -3,7 +3,7 @@ use Rattle.curve.specs.Known.{Known, all_known, verdict_in}
 use Rattle.curve.specs.laws.Growth.{Grows}
 use Rattle.queue.specs.Jobs.{known_of, known_then}
 use Rattle.view.specs.Origin.{known_in}
-use Rattle.node.proofs.Growing.{listed_early}
+use Rattle.node.proofs.Growth.{listed_early}
 use Rattle.node.proofs.early.verdicts_of.Goals.{in-Some, in-None}
 use Rattle.node.proofs.early.verdicts_of.Goals as goal
 

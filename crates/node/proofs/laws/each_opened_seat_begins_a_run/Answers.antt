@@ -1,4 +1,4 @@
-use Rattle.node.specs.laws.Opening.{opening_at}
+use Rattle.node.specs.laws.OpenSeats.{opening_at}
 use Rattle.node.proofs.laws.each_opened_seat_begins_a_run.Goals as goal
 
 pub returns : goal.returns

@@ -3,8 +3,8 @@ use Rattle.std.specs.Prelude.{IfSome}
 use mathlib.Core.List.{IsPrefix}
 use Rattle.queue.specs.Jobs.{IsEarly}
 use Rattle.view.specs.Origin.{known_in}
-use Rattle.node.proofs.Growing.{early_along}
-use Rattle.node.proofs.Owning.{begins_whole}
+use Rattle.node.proofs.Growth.{early_along}
+use Rattle.node.proofs.OwnEntries.{begins_whole}
 use Rattle.node.proofs.learnt.still_early.Goals as goal
 
 pub returns-then-begins : goal.returns-then-begins

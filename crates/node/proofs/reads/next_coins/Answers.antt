@@ -4,7 +4,7 @@ use Rattle.txn.specs.declared.outpoint.OutPoint.{OutPoint}
 use Rattle.coins.specs.declared.coin.Coin.{Coin}
 use Rattle.coins.specs.Next.{IsNext}
 use Rattle.node.specs.inside.CoinOrder.{Leads}
-use Rattle.node.proofs.Following.{one-more, as-many, all-there}
+use Rattle.node.proofs.CoinWalk.{one-more, as-many, all-there}
 use Rattle.node.proofs.reads.next_coins.Goals as goal
 
 pub loop-preserved : goal.loop-preserved

@@ -2,8 +2,8 @@ use Rattle.std.proofs.Common.{◌≡◌, ◌+◌, length, sym, ap, subst, ◌∙
 use Rattle.std.proofs.lemmas.List.{length_push}
 use Rattle.queue.specs.Ahead.{answer_of}
 use Rattle.queue.specs.Jobs.{said}
-use Rattle.queue.specs.inside.Pairing.{AreSaid, AreWanted, wanted_in}
-use Rattle.queue.proofs.Answering.{said-next, wanted-next}
+use Rattle.queue.specs.inside.KnownAnswers.{AreSaid, AreWanted, wanted_in}
+use Rattle.queue.proofs.JobAnswers.{said-next, wanted-next}
 use Rattle.queue.proofs.early.all_answers.Goals as goal
 
 pub loop-place-preserved : goal.loop-place-preserved

@@ -1,6 +1,6 @@
 use Rattle.std.proofs.Common.{◌≡◌, length}
-use Rattle.queue.specs.inside.Pairing.{AreSaid, AreWanted}
-use Rattle.queue.specs.inside.Walking.{AreRight}
+use Rattle.queue.specs.inside.KnownAnswers.{AreSaid, AreWanted}
+use Rattle.queue.specs.inside.Walk.{AreRight}
 use Rattle.queue.proofs.early.all_answers.Given as goal
 
 -- what was found of each place before

@@ -3,8 +3,8 @@ use Rattle.std.proofs.lemmas.Result.{IfOk-weaker}
 use Rattle.curve.specs.Known.{all_known, verdict_in}
 use Rattle.interp.specs.Question.{question_of}
 use Rattle.queue.specs.Jobs.{answers_to, known_of, questions}
-use Rattle.queue.specs.inside.Pairing.{AreTheirWants}
-use Rattle.queue.proofs.Answering.{said-answers, their-wants}
+use Rattle.queue.specs.inside.KnownAnswers.{AreTheirWants}
+use Rattle.queue.proofs.JobAnswers.{said-answers, their-wants}
 use Rattle.queue.proofs.early.early_answers.Goals as goal
 
 pub returns-in-Listed-clause-answers : goal.returns-in-Listed-clause-answers

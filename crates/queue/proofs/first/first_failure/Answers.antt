@@ -4,7 +4,7 @@ use Rattle.std.proofs.lemmas.List.{nil_from_length}
 use borrow.Author.Tests.{eqb-true}
 use Rattle.curve.specs.Triple.{Triple}
 use Rattle.queue.specs.Jobs.{verdict_at}
-use Rattle.queue.specs.laws.Failing.{all-wanted}
+use Rattle.queue.specs.laws.FirstFailure.{all-wanted}
 use Rattle.queue.proofs.Walks.{want-unknown, yes-below}
 use Rattle.queue.proofs.first.first_failure.Goals as goal
 

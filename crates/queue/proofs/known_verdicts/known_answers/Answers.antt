@@ -2,7 +2,7 @@ use Rattle.std.proofs.Common.{List, sym, subst}
 use Rattle.std.proofs.lemmas.Result.{IfOk-weaker}
 use Rattle.queue.specs.Jobs.{Answered}
 use Rattle.queue.specs.Early.{AreAllKnown}
-use Rattle.queue.specs.inside.Pairing.{Covers}
+use Rattle.queue.specs.inside.KnownAnswers.{Covers}
 use Rattle.queue.proofs.known_verdicts.known_answers.Goals as goal
 
 pub answers_in-requires-clause-covers : goal.answers_in-requires-clause-covers

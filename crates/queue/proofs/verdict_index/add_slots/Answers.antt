@@ -5,7 +5,7 @@ use Rattle.queue.specs.declared.verdict_index.Key.{Key}
 use Rattle.queue.specs.declared.verdict_index.Slot.{Slot}
 use Rattle.interp.specs.Question.{Question}
 use Rattle.queue.specs.Jobs.{Batch, questions}
-use Rattle.queue.specs.inside.Pairing.{key_cmp, key_of, slot_for}
+use Rattle.queue.specs.inside.KnownAnswers.{key_cmp, key_of, slot_for}
 use Rattle.queue.proofs.Pairs.{own_all, own_next, own_past, stays_some}
 use Rattle.queue.proofs.verdict_index.add_slots.Goals as goal
 

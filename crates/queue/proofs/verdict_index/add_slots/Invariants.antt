@@ -1,6 +1,6 @@
 use Rattle.std.specs.Prelude.{IsSome}
 use Rattle.queue.specs.declared.verdict_index.Key.{Key}
-use Rattle.queue.specs.inside.Pairing.{slot_for}
+use Rattle.queue.specs.inside.KnownAnswers.{slot_for}
 use Rattle.queue.proofs.Pairs.{OwnBelow}
 use Rattle.queue.proofs.verdict_index.add_slots.Given as goal
 

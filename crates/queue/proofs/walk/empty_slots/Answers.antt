@@ -1,6 +1,6 @@
 use Rattle.std.proofs.Common.{◌+◌, None, length, subst, sym, ap, ◌∙◌}
 use Rattle.std.proofs.lemmas.List.{length_push}
-use Rattle.queue.specs.inside.Walking.{AreRight}
+use Rattle.queue.specs.inside.Walk.{AreRight}
 use Rattle.queue.proofs.Walks.{right-next}
 use Rattle.queue.proofs.walk.empty_slots.Goals as goal
 

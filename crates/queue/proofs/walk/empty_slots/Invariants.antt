@@ -1,5 +1,5 @@
 use Rattle.std.proofs.Common.{◌≡◌, length}
-use Rattle.queue.specs.inside.Walking.{AreRight}
+use Rattle.queue.specs.inside.Walk.{AreRight}
 use Rattle.queue.proofs.walk.empty_slots.Given as goal
 
 abbrev pub invariant-loop : goal.invariant-loop

@@ -1,6 +1,6 @@
 use Rattle.std.proofs.Common.{◌≡◌}
-use Rattle.queue.specs.Telling.{NoneRefused, wants_below}
-use Rattle.queue.specs.inside.Walking.{AreRight}
+use Rattle.queue.specs.FirstAnswer.{NoneRefused, wants_below}
+use Rattle.queue.specs.inside.Walk.{AreRight}
 use Rattle.queue.proofs.walk.go_through.Given as goal
 
 -- no place before is refused, and what they want was gathered

@@ -1,4 +1,4 @@
-use Rattle.queue.specs.inside.Walking.{AreRight}
+use Rattle.queue.specs.inside.Walk.{AreRight}
 use Rattle.queue.proofs.walk.slots_of.Given as goal
 
 abbrev pub invariant-loop-found : goal.invariant-loop-found

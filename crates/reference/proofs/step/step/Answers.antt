@@ -1,5 +1,5 @@
 use Rattle.std.proofs.Common.{◌≡◌, Some, None, Err, sym, ap, ◌∙◌, subst, inl, inr}
-use Rattle.block.specs.Decoding.{block_of_bytes, Decodes}
+use Rattle.block.specs.BlockOfBytes.{block_of_bytes, Decodes}
 use Rattle.chain.specs.Commands.{outcome}
 use Rattle.reference.specs.inside.Replay.{chain_rules, state_of_replayed}
 use Rattle.chain.specs.laws.Outcomes.{submitted, refused, invalidates, reconsiders, prefers, learns}

@@ -4,7 +4,7 @@ use Rattle.std.specs.Option.{option_or}
 use Rattle.txn.specs.declared.reason.Reason.{Reason}
 use Rattle.txn.specs.Check.{tx_rules}
 use Rattle.txn.specs.First.{first_broken}
-use Rattle.rules.proofs.Ordered.{next}
+use Rattle.rules.proofs.FirstBroken.{next}
 use Rattle.rules.proofs.alone.broken_tx.Goals as goal
 
 pub returns-in-Some : goal.returns-in-Some

@@ -5,7 +5,7 @@ use Rattle.txn.specs.declared.tx.Tx.{Tx}
 use Rattle.txn.specs.Check.{tx_rules}
 use Rattle.txn.specs.First.{Rules}
 use Rattle.rules.specs.Alone.{max_block_sigops, tx_sigops}
-use Rattle.rules.proofs.Ordered.{among, after}
+use Rattle.rules.proofs.FirstBroken.{among, after}
 use Rattle.rules.proofs.alone.broken_within.Goals as goal
 
 abbrev last : List Tx → Rules

@@ -1,4 +1,4 @@
-use Rattle.script.proofs.Spelling.{num_value-spelled, spelled-shortest}
+use Rattle.script.proofs.NumberBytes.{num_value-spelled, spelled-shortest}
 use Rattle.script.proofs.laws.one_number.Goals as goal
 
 pub returns-clause-reads : goal.returns-clause-reads

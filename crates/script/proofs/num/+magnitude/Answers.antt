@@ -1,5 +1,5 @@
 use Rattle.std.proofs.Common.{arith}
-use Rattle.script.proofs.Spelling.{others_below}
+use Rattle.script.proofs.NumberBytes.{others_below}
 use Rattle.script.proofs.num.+magnitude.Goals as goal
 
 pub overflow_mul-result : goal.overflow_mul-result

@@ -1,5 +1,5 @@
 use Rattle.std.proofs.Common.{◌∙◌, ap, ◌++◌, ◌/◌, arith}
-use Rattle.script.proofs.Spelling.{spelled_more, spelled_last}
+use Rattle.script.proofs.NumberBytes.{spelled_more, spelled_last}
 use Rattle.script.specs.Num.{shortest_bytes_with}
 use Rattle.script.proofs.num.spell.Goals as goal
 

@@ -1,7 +1,7 @@
 use Rattle.std.specs.Prelude.{IfOk}
 use Rattle.std.proofs.Common.{subst, sym}
 use Rattle.server.specs.inside.Answers.{TellsStep}
-use Rattle.server.proofs.Answering.{reply_told}
+use Rattle.server.proofs.AnswerLines.{reply_told}
 use Rattle.server.proofs.answers.replied.Goals as goal
 
 pub returns-in-Ok-write : goal.returns-in-Ok-write

@@ -1,9 +1,9 @@
 use Rattle.std.proofs.Common.{◌∙◌, sym, ap, arith}
-use Rattle.block.specs.Decoding.{block_of_bytes}
+use Rattle.block.specs.BlockOfBytes.{block_of_bytes}
 use Rattle.block.specs.Identity.{id_of}
 use Rattle.tree.specs.Branches.{place_of}
 use Rattle.tree.specs.Names.{names}
-use Rattle.tree.specs.laws.Added.{place-bound}
+use Rattle.tree.specs.laws.AddedBlock.{place-bound}
 use Rattle.server.proofs.Brought.{brought_so, none_there}
 use Rattle.server.proofs.blocks.brought_by.Goals as goal
 

@@ -1,5 +1,5 @@
 use Rattle.std.proofs.Common.{rules}
-use Rattle.server.proofs.Going.{goes_far, ends_far}
+use Rattle.server.proofs.LogCalls.{goes_far, ends_far}
 use Rattle.server.proofs.delivery.append_all.Goals as goal
 
 pub returns-in-Err-clause-lost : goal.returns-in-Err-clause-lost

@@ -1,4 +1,4 @@
-use Rattle.server.proofs.Going.{goes_line, ends}
+use Rattle.server.proofs.LogCalls.{goes_line, ends}
 use Rattle.server.proofs.delivery.append_line.Goals as goal
 
 pub returns-in-Ok-clause-goes_on : goal.returns-in-Ok-clause-goes_on

@@ -1,4 +1,4 @@
-use Rattle.server.proofs.Going.{ends}
+use Rattle.server.proofs.LogCalls.{ends}
 use Rattle.server.proofs.delivery.given_up.Goals as goal
 
 pub returns : goal.returns

@@ -1,4 +1,4 @@
-use Rattle.server.proofs.Going.{goes_round, ends_far}
+use Rattle.server.proofs.LogCalls.{goes_round, ends_far}
 use Rattle.server.proofs.delivery.let_go.Goals as goal
 
 pub returns-in-Ok-2-clause-lost : goal.returns-in-Ok-2-clause-lost

@@ -1,6 +1,6 @@
 use Rattle.std.proofs.lemmas.Result.{IfOk-weaker, MatchResult-weaker}
 use Rattle.server.specs.inside.Delivery.{GoesOn}
-use Rattle.server.proofs.Going.{goes_far, ends_far}
+use Rattle.server.proofs.LogCalls.{goes_far, ends_far}
 use Rattle.server.proofs.delivery.tell_all.Goals as goal
 
 pub returns-in-Ok-clause-goes_on : goal.returns-in-Ok-clause-goes_on

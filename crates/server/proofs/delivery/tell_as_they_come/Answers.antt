@@ -1,4 +1,4 @@
-use Rattle.server.proofs.Going.{goes_far, ends_far, stays}
+use Rattle.server.proofs.LogCalls.{goes_far, ends_far, stays}
 use Rattle.server.proofs.delivery.tell_as_they_come.Goals as goal
 
 pub loop-init : goal.loop-init

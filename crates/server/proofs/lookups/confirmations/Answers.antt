@@ -1,6 +1,6 @@
 use Rattle.std.proofs.Common.{◌≡◌, ◌∙◌, Some, sym, subst, rules}
 use Rattle.tree.specs.Names.{names}
-use Rattle.tree.specs.laws.Added.{place-bound}
+use Rattle.tree.specs.laws.AddedBlock.{place-bound}
 use Rattle.activate.specs.Lookups.{ancestor_of}
 use Rattle.server.proofs.Brought.{top_height}
 use Rattle.server.proofs.lookups.confirmations.Goals as goal

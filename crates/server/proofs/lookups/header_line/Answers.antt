@@ -1,6 +1,6 @@
 use Rattle.std.proofs.Common.{◌∙◌, sym}
 use Rattle.tree.specs.Names.{names}
-use Rattle.tree.specs.laws.Added.{place-bound}
+use Rattle.tree.specs.laws.AddedBlock.{place-bound}
 use Rattle.server.specs.inside.Answers.{header_answer}
 use Rattle.server.proofs.Brought.{header_told}
 use Rattle.server.proofs.lookups.header_line.Goals as goal

@@ -3,7 +3,7 @@ use Rattle.json.specs.Value.{value_view}
 use Rattle.serving.specs.Requests.{IsRequest, IsSeat, IsInTurn}
 use Rattle.serving.specs.declared.request.Asked.TheVariants as asked
 use Rattle.serving.specs.declared.refusal.Refusal.TheVariants as refusal
-use Rattle.serving.proofs.Refusing.{is-param, asked-refused, refused-in-turn}
+use Rattle.serving.proofs.Refusals.{is-param, asked-refused, refused-in-turn}
 use Rattle.serving.proofs.request.asked_of.Goals as goal
 
 pub returns-in-Err : goal.returns-in-Err

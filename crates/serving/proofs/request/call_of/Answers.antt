@@ -4,7 +4,7 @@ use Rattle.std.specs.Prelude.{IfOk, IfErr}
 use Rattle.serving.specs.Requests.{IsCall}
 use Rattle.serving.specs.declared.method.Method.TheVariants as method
 use Rattle.serving.specs.inside.Given.{given, IsNoCall}
-use Rattle.serving.proofs.Refusing.{is-param, takes}
+use Rattle.serving.proofs.Refusals.{is-param, takes}
 
 pub returns-in-Submit-clause-ok : goal.returns-in-Submit-clause-ok
 returns-in-Submit-clause-ok c =

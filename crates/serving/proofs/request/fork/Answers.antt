@@ -2,7 +2,7 @@ use Rattle.serving.proofs.request.fork.Goals as goal
 use Rattle.std.proofs.Common.{inr}
 use Rattle.serving.specs.declared.method.Method.TheVariants as method
 use Rattle.serving.specs.inside.Given.{given}
-use Rattle.serving.proofs.Refusing.{is-param, takes}
+use Rattle.serving.proofs.Refusals.{is-param, takes}
 
 pub returns-in_default-Err-clause-err : goal.returns-in_default-Err-clause-err
 returns-in_default-Err-clause-err c seats =

@@ -4,9 +4,9 @@ use Rattle.hash.specs.Double.{double_sha}
 use Rattle.hash.specs.declared.id.Id.{Id}
 use Rattle.lanes.specs.Midstate.{part}
 use Rattle.script.specs.Removal.{bytes_of}
-use Rattle.sighash.specs.inside.Beginning.{beginning}
+use Rattle.sighash.specs.inside.MessageFront.{beginning}
 use Rattle.sighash.specs.inside.Flat.{with_script}
-use Rattle.sighash.proofs.Spliced.{length-piece, own_digest, part_more, within_eight}
+use Rattle.sighash.proofs.Splices.{length-piece, own_digest, part_more, within_eight}
 use Rattle.sighash.proofs.ahead.eight.Goals as goal
 
 code_at : (codes : List (Bor (List ℕ))) (k : ℕ) (d : Bor (List ℕ)) → length codes ≡ 8 → k < 8 → (get_or codes k d).now ≡ get_or (bytes_of codes) k []

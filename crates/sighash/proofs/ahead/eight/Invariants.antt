@@ -1,6 +1,6 @@
 use Rattle.std.proofs.Common.{◌≡◌, ℕ, ◌+◌, ◌-◌, ◌*◌, ◌<◌, [], length, take, drop, slice_index_or}
 use Rattle.script.specs.Removal.{bytes_of}
-use Rattle.sighash.specs.inside.Beginning.{beginning}
+use Rattle.sighash.specs.inside.MessageFront.{beginning}
 use Rattle.sighash.specs.inside.Flat.{with_script}
 use Rattle.sighash.proofs.ahead.eight.Given as goal
 

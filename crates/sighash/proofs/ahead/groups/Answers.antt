@@ -4,8 +4,8 @@ use Rattle.lanes.specs.Midstate.{part}
 use Rattle.txn.specs.declared.tx.Tx.{Tx}
 use Rattle.sighash.specs.declared.ahead.Group.{Group}
 use Rattle.sighash.specs.inside.Ahead.{AreDigests, AreGroups}
-use Rattle.sighash.specs.inside.Beginning.{beginning}
-use Rattle.sighash.proofs.Spliced.{groups_push}
+use Rattle.sighash.specs.inside.MessageFront.{beginning}
+use Rattle.sighash.proofs.Splices.{groups_push}
 use Rattle.sighash.proofs.ahead.groups.Goals as goal
 
 pub loop-number-preserved : goal.loop-number-preserved

@@ -1,6 +1,6 @@
 use Rattle.std.proofs.Common.{◌≡◌, ◌*◌, ◌≤◌, length}
 use Rattle.sighash.specs.inside.Ahead.{AreGroups, IsBegun}
-use Rattle.sighash.specs.inside.Beginning.{beginning}
+use Rattle.sighash.specs.inside.MessageFront.{beginning}
 use Rattle.sighash.proofs.ahead.groups.Given as goal
 
 abbrev pub invariant-loop-number : goal.invariant-loop-number

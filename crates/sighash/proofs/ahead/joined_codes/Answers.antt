@@ -1,7 +1,7 @@
 use Rattle.std.proofs.Common.{◌≡◌, ℕ, ◌*◌, ◌/◌, ◌<◌, List, [], ◌++◌, Bor, length, take, drop, get_or, refl, sym, ap, ◌∙◌, arith}
 use Rattle.std.proofs.lemmas.List.{get_or-map, length-append}
 use Rattle.sighash.specs.inside.Ahead.{code_at}
-use Rattle.sighash.proofs.Spliced.{part_more}
+use Rattle.sighash.proofs.Splices.{part_more}
 use Rattle.sighash.proofs.ahead.joined_codes.Goals as goal
 
 pub loop-lane-preserved : goal.loop-lane-preserved

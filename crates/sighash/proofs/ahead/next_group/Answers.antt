@@ -1,6 +1,6 @@
 use Rattle.std.proofs.Common.{◌*◌, ◌/◌, take, length, refl, ap, arith}
-use Rattle.sighash.specs.inside.Beginning.{beginning}
-use Rattle.sighash.proofs.Spliced.{taken}
+use Rattle.sighash.specs.inside.MessageFront.{beginning}
+use Rattle.sighash.proofs.Splices.{taken}
 use Rattle.sighash.proofs.ahead.next_group.Goals as goal
 
 pub eight-requires-clause-midstate : goal.eight-requires-clause-midstate

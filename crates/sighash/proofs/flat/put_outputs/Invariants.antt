@@ -1,6 +1,6 @@
 use Rattle.std.proofs.Common.{◌≡◌, ◌++◌, length, take}
 use Rattle.std.specs.List.{flat_map}
-use Rattle.wire.specs.Spelling.{compact_size}
+use Rattle.wire.specs.Numbers.{compact_size}
 use Rattle.txn.specs.Grammar.{output}
 use Rattle.sighash.proofs.flat.put_outputs.Given as goal
 

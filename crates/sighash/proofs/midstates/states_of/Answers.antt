@@ -6,7 +6,7 @@ use Rattle.sha2.specs.Hashers.{Holds256}
 use Rattle.txn.specs.declared.input.TxIn.{TxIn}
 use Rattle.txn.specs.Grammar.{input}
 use Rattle.sighash.specs.Digest.{other_input}
-use Rattle.sighash.specs.inside.Beginning.{beginning, AreMidstates}
+use Rattle.sighash.specs.inside.MessageFront.{beginning, AreMidstates}
 use Rattle.sighash.proofs.Beginnings.{beginning_next, states_push}
 use Rattle.sighash.proofs.midstates.states_of.Goals as goal
 

@@ -1,6 +1,6 @@
 use Rattle.std.proofs.Common.{◌≡◌, ◌*◌, length}
 use Rattle.sha2.specs.Hashers.{Holds256}
-use Rattle.sighash.specs.inside.Beginning.{beginning, AreMidstates}
+use Rattle.sighash.specs.inside.MessageFront.{beginning, AreMidstates}
 use Rattle.sighash.proofs.midstates.states_of.Given as goal
 
 abbrev pub invariant-loop-place : goal.invariant-loop-place

@@ -9,7 +9,7 @@ use Rattle.tree.specs.Nodes.{blocks_of, kept_of}
 use Rattle.tree.specs.inside.Nodes.{AreNodes, IsNode}
 use Rattle.tree.specs.laws.Branches.{parent_here, height_here}
 use Rattle.tree.specs.laws.Parents.{height-place}
-use Rattle.tree.specs.laws.Added.{block_here, id_here, blocks-new}
+use Rattle.tree.specs.laws.AddedBlock.{block_here, id_here, blocks-new}
 use Rattle.tree.proofs.Views.{length-blocks}
 use Rattle.tree.proofs.leaves.node_on.Goals as goal
 

@@ -5,7 +5,7 @@ use Rattle.tree.specs.declared.node.Node.{Node}
 use Rattle.tree.specs.Branches.{on}
 use Rattle.tree.specs.Nodes.{blocks_of}
 use Rattle.tree.proofs.Changes.{parent_before}
-use Rattle.tree.proofs.Cleared.{up_end, up_on}
+use Rattle.tree.proofs.ClearedMarks.{up_end, up_on}
 use Rattle.tree.proofs.marks.add_ancestors.Goals as goal
 
 pub returns-then-next-eq0-clause-up : goal.returns-then-next-eq0-clause-up

@@ -5,7 +5,7 @@ use Rattle.tree.specs.declared.node.Node.{Node}
 use Rattle.tree.specs.Branches.{on}
 use Rattle.tree.specs.Nodes.{blocks_of}
 use Rattle.tree.proofs.Changes.{parent_before}
-use Rattle.tree.proofs.Cleared.{stands, flag_push, flag_last}
+use Rattle.tree.proofs.ClearedMarks.{stands, flag_push, flag_last}
 use Rattle.tree.proofs.marks.descendants.Goals as goal
 
 pub stands_on-stands-requires : goal.stands_on-stands-requires

@@ -1,4 +1,4 @@
-use Rattle.txn.specs.laws.Reading.{transaction_decides}
+use Rattle.txn.specs.laws.Reader.{transaction_decides}
 use Rattle.txn.proofs.laws.what_is_spelled_is_read.Goals as goal
 
 pub returns : goal.returns

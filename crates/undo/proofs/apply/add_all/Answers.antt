@@ -6,7 +6,7 @@ use Rattle.script.specs.Kinds.{is_unspendable}
 use Rattle.coins.specs.declared.coin.Coin.{Coin}
 use Rattle.coins.specs.Coins.{Coins, Layer}
 use Rattle.undo.specs.Effect.{outpoint_at, spendable, coin_of, with_coins}
-use Rattle.undo.specs.laws.Reverting.{AreNew}
+use Rattle.undo.specs.laws.Reversal.{AreNew}
 use Rattle.undo.proofs.Steps.{drop_item, made_rest, made_same}
 use Rattle.undo.proofs.apply.add_all.Goals as goal
 

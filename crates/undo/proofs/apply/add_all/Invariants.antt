@@ -1,6 +1,6 @@
 use Rattle.std.proofs.Common.{◌≡◌, drop, map}
 use Rattle.undo.specs.Effect.{spendable, coin_of, with_coins}
-use Rattle.undo.specs.laws.Reverting.{AreNew}
+use Rattle.undo.specs.laws.Reversal.{AreNew}
 use Rattle.undo.proofs.apply.add_all.Given as goal
 
 abbrev pub invariant-loop-place : goal.invariant-loop-place

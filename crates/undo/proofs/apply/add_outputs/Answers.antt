@@ -4,8 +4,8 @@ use Rattle.txn.specs.declared.outpoint.OutPoint.{OutPoint}
 use Rattle.coins.specs.declared.coin.Coin.{Coin}
 use Rattle.coins.specs.Coins.{Coins}
 use Rattle.undo.specs.Effect.{spends, spendable, coin_of, without, with_coins, after}
-use Rattle.undo.specs.laws.Reverting.{AreNew}
-use Rattle.undo.specs.laws.Undoing.{are_new}
+use Rattle.undo.specs.laws.Reversal.{AreNew}
+use Rattle.undo.specs.laws.RoundTrip.{are_new}
 use Rattle.undo.proofs.Steps.{to_coins}
 use Rattle.undo.proofs.apply.add_outputs.Goals as goal
 

@@ -1,4 +1,4 @@
-use Rattle.undo.specs.laws.Undoing.{stays-after}
+use Rattle.undo.specs.laws.RoundTrip.{stays-after}
 use Rattle.undo.proofs.laws.all_other_coins_stay.Goals as goal
 
 pub returns : goal.returns

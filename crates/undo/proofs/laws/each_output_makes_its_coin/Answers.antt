@@ -1,4 +1,4 @@
-use Rattle.undo.specs.laws.Undoing.{output-after}
+use Rattle.undo.specs.laws.RoundTrip.{output-after}
 use Rattle.undo.proofs.laws.each_output_makes_its_coin.Goals as goal
 
 pub returns : goal.returns

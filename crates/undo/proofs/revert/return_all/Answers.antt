@@ -6,7 +6,7 @@ use Rattle.txn.specs.Check.{prevs}
 use Rattle.coins.specs.declared.coin.Coin.{Coin}
 use Rattle.coins.specs.Coins.{Coins, Layer}
 use Rattle.undo.specs.Effect.{with_coins}
-use Rattle.undo.specs.laws.Reverting.{AreNew}
+use Rattle.undo.specs.laws.Reversal.{AreNew}
 use Rattle.undo.specs.laws.Effects.{new_next}
 use Rattle.undo.proofs.Steps.{drop_item}
 use Rattle.undo.proofs.revert.return_all.Goals as goal

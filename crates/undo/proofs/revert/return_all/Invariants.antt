@@ -2,7 +2,7 @@ use Rattle.std.proofs.Common.{◌≡◌, drop}
 use Rattle.std.specs.List.{zip}
 use Rattle.txn.specs.Check.{prevs}
 use Rattle.undo.specs.Effect.{with_coins}
-use Rattle.undo.specs.laws.Reverting.{AreNew}
+use Rattle.undo.specs.laws.Reversal.{AreNew}
 use Rattle.undo.proofs.revert.return_all.Given as goal
 
 abbrev pub invariant-loop-index : goal.invariant-loop-index

@@ -4,7 +4,7 @@ use Rattle.std.specs.Map.{keys_of}
 use Rattle.txn.specs.declared.output.TxOut.{TxOut}
 use Rattle.coins.specs.Coins.{Coins}
 use Rattle.undo.specs.Effect.{spends, spendable, without, with_coins}
-use Rattle.undo.specs.laws.Reverting.{coins_before}
+use Rattle.undo.specs.laws.Reversal.{coins_before}
 use Rattle.undo.proofs.Steps.{two_steps, to_coins}
 use Rattle.undo.proofs.revert.revert.Goals as goal
 

@@ -1,5 +1,5 @@
 use Rattle.std.proofs.Common.{◌∙◌}
-use Rattle.undo.specs.laws.Undoing.{revertible, reverted_is}
+use Rattle.undo.specs.laws.RoundTrip.{revertible, reverted_is}
 use Rattle.undo.proofs.Steps.{on_ok, to_coins}
 use Rattle.undo.proofs.revert.revert_tx.Goals as goal
 

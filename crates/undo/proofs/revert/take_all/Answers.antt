@@ -5,7 +5,7 @@ use Rattle.txn.specs.declared.output.TxOut.{TxOut}
 use Rattle.script.specs.Kinds.{is_unspendable}
 use Rattle.coins.specs.Coins.{Coins, Layer}
 use Rattle.undo.specs.Effect.{outpoint_at, spendable, without}
-use Rattle.undo.specs.laws.Reverting.{AreCoins}
+use Rattle.undo.specs.laws.Reversal.{AreCoins}
 use Rattle.undo.proofs.Steps.{drop_item, gone_rest, gone_same}
 use Rattle.undo.proofs.revert.take_all.Goals as goal
 

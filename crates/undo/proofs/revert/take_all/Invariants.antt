@@ -1,7 +1,7 @@
 use Rattle.std.proofs.Common.{◌≡◌, drop}
 use Rattle.std.specs.Map.{keys_of}
 use Rattle.undo.specs.Effect.{spendable, without}
-use Rattle.undo.specs.laws.Reverting.{AreCoins}
+use Rattle.undo.specs.laws.Reversal.{AreCoins}
 use Rattle.undo.proofs.revert.take_all.Given as goal
 
 abbrev pub invariant-loop-place : goal.invariant-loop-place

@@ -1,7 +1,7 @@
 use Rattle.std.proofs.Common.{◌≡◌, IfErr, IfOk, IfSome, ◌∙◌, sym, subst}
 use Rattle.curve.specs.Known.{Under}
 use Rattle.chain.specs.Commands.{outcome}
-use Rattle.chain.specs.Prepared.{command_of}
+use Rattle.chain.specs.PreparedCommand.{command_of}
 use Rattle.chain.specs.Regtest.{regtest}
 use Rattle.activate.specs.CoreState.{IsChainstate, WithCoins}
 use Rattle.activate.specs.Wants.{AreWantedByStep}

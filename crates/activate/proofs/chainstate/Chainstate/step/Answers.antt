@@ -2,9 +2,9 @@ use Rattle.std.proofs.Common.{◌≡◌, ap, ◌∙◌, sym, subst}
 use Rattle.curve.specs.Triple.{Triples}
 use Rattle.coins.specs.Coins.{Coins}
 use Rattle.coins.specs.Changes.{after_changes}
-use Rattle.coins.specs.laws.Changing.{laid-changes}
+use Rattle.coins.specs.laws.Changes.{laid-changes}
 use Rattle.chain.specs.Commands.{outcome}
-use Rattle.chain.specs.Prepared.{command_of}
+use Rattle.chain.specs.PreparedCommand.{command_of}
 use Rattle.chain.specs.Regtest.{regtest}
 use Rattle.chain.specs.declared.reply.Reply.{Reply}
 use Rattle.activate.specs.inside.Preparation.{core_after_commit}

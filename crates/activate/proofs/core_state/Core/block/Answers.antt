@@ -1,5 +1,5 @@
 use Rattle.std.proofs.Common.{sym, ◌∙◌}
-use Rattle.tree.specs.laws.Added.{place-bound}
+use Rattle.tree.specs.laws.AddedBlock.{place-bound}
 use Rattle.tree.specs.Names.{names}
 use Rattle.activate.proofs.core_state.Core.block.Goals as goal
 

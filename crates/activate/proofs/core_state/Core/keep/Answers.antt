@@ -5,7 +5,7 @@ use Rattle.tree.specs.Branches.{Blocks}
 use Rattle.tree.specs.State.{State, with_block}
 use Rattle.tree.specs.laws.Parents.{height-place}
 use Rattle.activate.specs.inside.Kept.{IsBranch, HasRoom}
-use Rattle.activate.specs.laws.Growing.{branch-beside}
+use Rattle.activate.specs.laws.Growth.{branch-beside}
 use Rattle.activate.proofs.Cores.{places-long, medians-long, packed-long}
 use Rattle.activate.proofs.core_state.Core.keep.Goals as goal
 

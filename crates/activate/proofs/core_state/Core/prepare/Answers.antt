@@ -2,7 +2,7 @@ use Rattle.std.proofs.Common.{◌≡◌, ℕ, suc, ◌<◌, ◌≤◌, length, L
 use Rattle.std.specs.Option.{option_copied}
 use Rattle.std.specs.Result.{result_err}
 use Rattle.std.proofs.lemmas.Result.{err_from_is_err_and}
-use Rattle.block.specs.Decoding.{block_of_bytes}
+use Rattle.block.specs.BlockOfBytes.{block_of_bytes}
 use Rattle.connect.specs.laws.Stops.{wanted_weaker}
 use Rattle.tree.specs.State.{with_block}
 use Rattle.hash.specs.declared.id.Id.{Id}
@@ -13,20 +13,20 @@ use Rattle.chain.specs.Faults.{IsNew}
 use Rattle.tree.specs.Branches.{place_of}
 use Rattle.tree.specs.Limits.{max_blocks}
 use Rattle.tree.specs.Names.{names}
-use Rattle.tree.specs.laws.Added.{place-bound}
+use Rattle.tree.specs.laws.AddedBlock.{place-bound}
 use Rattle.chain.specs.declared.reply.Reply.TheVariants as reply
 use Rattle.chain.specs.declared.reply.SubmitReply.TheVariants.{DecodeFailed, Rejected, TreeFull}
 use Rattle.chain.specs.Context.{first_fault}
 use Rattle.chain.specs.Submission.{submit_says}
 use Rattle.chain.specs.Commands.{outcome}
 use Rattle.chain.specs.Step.{Submit}
-use Rattle.chain.specs.Submitted.{IsSubmission}
+use Rattle.chain.specs.SubmissionFacts.{IsSubmission}
 use Rattle.chain.specs.declared.command.Command.TheVariants as command
 use Rattle.chain.specs.declared.submission.SubmittedBlock.{SubmittedBlock}
 use Rattle.chain.specs.Regtest.{regtest}
 use Rattle.activate.specs.CoreState.{CoreState}
 use Rattle.activate.specs.Wants.{AreWantedBy, AreWantedByStep, IsToSettle}
-use Rattle.activate.proofs.Wanted.{wanted_by}
+use Rattle.activate.proofs.WantsOfBlocks.{wanted_by}
 use Rattle.chain.specs.laws.Outcomes.{refused, submitted}
 use Rattle.chain.specs.laws.Steps.{step-known, step-full, step-faulty}
 use Rattle.tree.specs.declared.new_block.NewBlock.{NewBlock}
@@ -34,10 +34,10 @@ use Rattle.activate.specs.declared.plan.Prepared.{Prepared}
 use Rattle.activate.specs.declared.plan.Edit.TheVariants.{Keep}
 use Rattle.chain.specs.declared.submission.PreparedCommand.{PreparedCommand}
 use Rattle.chain.specs.declared.submission.PreparedCommand.TheVariants as asked
-use Rattle.chain.specs.Prepared.{command_of}
+use Rattle.chain.specs.PreparedCommand.{command_of}
 use Rattle.activate.specs.inside.Preparation.{IsNoSubmission, IsPreparationFor}
 use Rattle.activate.proofs.NewBlock.{plan_new}
-use Rattle.activate.proofs.Planned.{plan-still}
+use Rattle.activate.proofs.PutInPlace.{plan-still}
 use Rattle.activate.proofs.core_state.Core.prepare.Goals as goal
 
 -- what was looked up inside, of a block's id, is so of the chainstate as it is seen

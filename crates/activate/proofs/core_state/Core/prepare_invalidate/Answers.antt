@@ -3,7 +3,7 @@ use Rattle.tree.specs.Branches.{place_of}
 use Rattle.tree.specs.Names.{names}
 use Rattle.tree.specs.State.{State, with_mark}
 use Rattle.block.specs.declared.block.Block.{Block}
-use Rattle.tree.specs.laws.Added.{place-bound}
+use Rattle.tree.specs.laws.AddedBlock.{place-bound}
 use Rattle.activate.specs.declared.plan.Prepared.{Prepared}
 use Rattle.chain.specs.declared.reply.MarkReply.TheVariants.{Genesis, NotFound}
 use Rattle.chain.specs.declared.reply.Reply.TheVariants as reply
@@ -14,9 +14,9 @@ use Rattle.chain.specs.Step.{Invalidate, step}
 use Rattle.activate.specs.CoreState.{CoreState}
 use Rattle.chain.specs.laws.Steps.{step-genesis, step_not-found}
 use Rattle.activate.proofs.Plans.{can-follows}
-use Rattle.activate.proofs.Planned.{can-marked, if_ok, plan-still}
+use Rattle.activate.proofs.PutInPlace.{can-marked, if_ok, plan-still}
 use Rattle.chain.specs.laws.Findings.{invalidate_done}
-use Rattle.activate.proofs.Wanted.{wanted_from}
+use Rattle.activate.proofs.WantsOfBlocks.{wanted_from}
 use Rattle.activate.proofs.core_state.Core.prepare_invalidate.Goals as goal
 
 pub returns-in-None-clause-prepared : goal.returns-in-None-clause-prepared

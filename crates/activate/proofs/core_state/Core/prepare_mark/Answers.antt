@@ -4,17 +4,17 @@ use Rattle.activate.specs.declared.plan.Prepared.{Prepared}
 use Rattle.chain.specs.declared.reply.Reply.TheVariants as reply
 use Rattle.chain.specs.declared.reply.MarkReply.TheVariants.{Done}
 use Rattle.chain.specs.Commands.{outcome}
-use Rattle.chain.specs.Prepared.{command_of}
+use Rattle.chain.specs.PreparedCommand.{command_of}
 use Rattle.activate.specs.inside.Preparation.{IsPreparationFor}
 use Rattle.chain.specs.Regtest.{regtest}
 use Rattle.activate.specs.CoreState.{CoreState}
 use Rattle.chain.specs.laws.Outcomes.{invalidates, reconsiders, prefers, learns}
-use Rattle.activate.proofs.Planned.{if_ok, plan-still}
+use Rattle.activate.proofs.PutInPlace.{if_ok, plan-still}
 use Rattle.curve.specs.Known.{Known}
 use Rattle.curve.specs.Triple.{Triple}
 use Rattle.chain.specs.declared.command.Command.{Command}
 use Rattle.activate.specs.Wants.{AreWantedByStep}
-use Rattle.activate.proofs.Wanted.{if_err}
+use Rattle.activate.proofs.WantsOfBlocks.{if_err}
 use Rattle.activate.proofs.core_state.Core.prepare_mark.Goals as goal
 
 pub returns-in-Invalidate-clause-prepared : goal.returns-in-Invalidate-clause-prepared

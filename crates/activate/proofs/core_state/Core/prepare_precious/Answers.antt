@@ -4,7 +4,7 @@ use Rattle.tree.specs.Branches.{height, place_of}
 use Rattle.tree.specs.Names.{names}
 use Rattle.tree.specs.State.{with_call, has_no_mark}
 use Rattle.tree.specs.Sound.{IsBest}
-use Rattle.tree.specs.laws.Added.{place-bound}
+use Rattle.tree.specs.laws.AddedBlock.{place-bound}
 use Rattle.activate.specs.declared.path.Attempt.{Attempt}
 use Rattle.activate.specs.declared.plan.Edit.TheVariants.{Call}
 use Rattle.activate.specs.declared.plan.Settled.{Settled}
@@ -23,10 +23,10 @@ use Rattle.chain.specs.Step.{Precious, step}
 use Rattle.activate.specs.CoreState.{CoreState, Follows}
 use Rattle.chain.specs.laws.Steps.{step_not-found}
 use Rattle.activate.proofs.Plans.{can-follows}
-use Rattle.activate.proofs.Planned.{best-called, can-called, one-try-called, plan-settled, plan-still}
+use Rattle.activate.proofs.PutInPlace.{best-called, can-called, one-try-called, plan-settled, plan-still}
 use Rattle.chain.specs.laws.Findings.{prefer_done, prefer_lower}
 use Rattle.activate.specs.Wants.{AreWantedToSettle}
-use Rattle.activate.proofs.Wanted.{wanted_best, wanted_by}
+use Rattle.activate.proofs.WantsOfBlocks.{wanted_best, wanted_by}
 use Rattle.activate.proofs.core_state.Core.prepare_precious.Goals as goal
 
 pub returns-in_default-clause-prepared : goal.returns-in_default-clause-prepared

@@ -2,7 +2,7 @@ use Rattle.std.proofs.Common.{◌≡◌, ℕ, ◌≤◌, length, Some, None, ref
 use Rattle.tree.specs.Branches.{place_of}
 use Rattle.tree.specs.Names.{names}
 use Rattle.tree.specs.State.{State, without_marks}
-use Rattle.tree.specs.laws.Added.{place-bound}
+use Rattle.tree.specs.laws.AddedBlock.{place-bound}
 use Rattle.block.specs.declared.block.Block.{Block}
 use Rattle.activate.specs.declared.plan.Prepared.{Prepared}
 use Rattle.chain.specs.declared.reply.MarkReply.TheVariants.{NotFound}
@@ -14,9 +14,9 @@ use Rattle.chain.specs.Step.{Reconsider, step}
 use Rattle.activate.specs.CoreState.{CoreState}
 use Rattle.chain.specs.laws.Steps.{step_not-found}
 use Rattle.activate.proofs.Plans.{can-follows}
-use Rattle.activate.proofs.Planned.{can-cleared, if_ok, plan-still}
+use Rattle.activate.proofs.PutInPlace.{can-cleared, if_ok, plan-still}
 use Rattle.chain.specs.laws.Findings.{reconsider_done}
-use Rattle.activate.proofs.Wanted.{wanted_from}
+use Rattle.activate.proofs.WantsOfBlocks.{wanted_from}
 use Rattle.activate.proofs.core_state.Core.prepare_reconsider.Goals as goal
 
 pub returns-in_default-clause-prepared : goal.returns-in_default-clause-prepared

@@ -16,8 +16,8 @@ use Rattle.activate.specs.Wants.{AreJoined}
 use Rattle.activate.specs.inside.Paths.{AreWantedOnWay, FailsAt, IsAttempt, IsValid, LeadsTo}
 use Rattle.activate.specs.inside.Preparation.{HasOtherMarks, IsFailedTry, TriesLead}
 use Rattle.activate.proofs.Plans.{fewer-unmarked, tries_more, tries_none}
-use Rattle.activate.proofs.Planned.{plan-marks}
-use Rattle.activate.proofs.Wanted.{wanted_before, wanted_best}
+use Rattle.activate.proofs.PutInPlace.{plan-marks}
+use Rattle.activate.proofs.WantsOfBlocks.{wanted_before, wanted_best}
 use Rattle.activate.proofs.core_state.Core.settle_marks.Goals as goal
 
 -- tries led from s to t, both with the blocks of a

@@ -8,7 +8,7 @@ use Rattle.activate.specs.Wants.{AreJoined}
 use Rattle.activate.specs.inside.Paths.{AreWantedOnWay, IsAttempt, IsValid}
 use Rattle.activate.specs.inside.Preparation.{CanTry, core_with_block}
 use Rattle.activate.proofs.NewBlock.{alone_new, below_new, best_new, can_new, settled_beside, tried_new}
-use Rattle.activate.proofs.Wanted.{wanted_best}
+use Rattle.activate.proofs.WantsOfBlocks.{wanted_best}
 use Rattle.activate.proofs.core_state.Core.settle_new.Goals as goal
 
 pub would_be_better-requires-clause-parent : goal.would_be_better-requires-clause-parent

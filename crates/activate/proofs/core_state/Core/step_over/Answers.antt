@@ -1,7 +1,7 @@
 use Rattle.std.proofs.Common.{ap, ◌∙◌, sym, subst}
 use Rattle.coins.specs.Changes.{AreChanges, Changes, after_changes}
-use Rattle.coins.specs.laws.Changing.{laid-changes}
-use Rattle.chain.specs.Prepared.{command_of}
+use Rattle.coins.specs.laws.Changes.{laid-changes}
+use Rattle.chain.specs.PreparedCommand.{command_of}
 use Rattle.chain.specs.declared.reply.Reply.{Reply}
 use Rattle.chain.specs.Regtest.{regtest}
 use Rattle.activate.specs.declared.own_coins.ChangesToLay.{ChangesToLay}

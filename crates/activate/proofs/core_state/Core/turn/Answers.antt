@@ -15,7 +15,7 @@ use Rattle.activate.specs.inside.Preparation.{undo_after}
 use Rattle.activate.proofs.Trails.{length-newest}
 use Rattle.activate.specs.inside.ActiveBranch.{median_at, last_of}
 use Rattle.activate.specs.inside.Paths.{IsPath}
-use Rattle.activate.specs.laws.Turning.{gone, come, turned_branch, up_kept}
+use Rattle.activate.specs.laws.OtherBranch.{gone, come, turned_branch, up_kept}
 use Rattle.activate.proofs.core_state.Core.turn.Goals as goal
 
 -- what is required of the path, said of the state that the struct's fields are

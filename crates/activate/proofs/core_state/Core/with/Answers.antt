@@ -5,7 +5,7 @@ use Rattle.block.specs.declared.genesis.TheConstants.{GENESIS_TIME}
 use Rattle.tree.specs.Branches.{Blocks}
 use Rattle.tree.specs.State.{State, opening}
 use Rattle.activate.specs.CoreState.{Follows, CoreState, coins_of, opened_core}
-use Rattle.activate.specs.laws.Growing.{branch_opening}
+use Rattle.activate.specs.laws.Growth.{branch_opening}
 use Rattle.activate.proofs.Openings.{opens}
 use Rattle.activate.proofs.core_state.Core.with.Goals as goal
 

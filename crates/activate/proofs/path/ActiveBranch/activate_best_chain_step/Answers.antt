@@ -8,10 +8,10 @@ use Rattle.chain.specs.laws.Candidates.{valid_below}
 use Rattle.activate.specs.CoreState.{branch_blocks, coins_after}
 use Rattle.activate.specs.inside.Paths.{IsPath, IsStop}
 use Rattle.activate.specs.inside.Ascents.{top_of, LeadsUp}
-use Rattle.activate.specs.laws.Climbing.{top-above, height-below, length-branch, length-medians_at, medians-shared, were-connected}
+use Rattle.activate.specs.laws.WalkUp.{top-above, height-below, length-branch, length-medians_at, medians-shared, were-connected}
 use Rattle.std.proofs.lemmas.List.{length-take-le}
 use Rattle.std.proofs.lemmas.Result.{err_from_is_err_and}
-use Rattle.activate.proofs.Wanted.{either_way, wanted_on-way}
+use Rattle.activate.proofs.WantsOfBlocks.{either_way, wanted_on-way}
 use Rattle.activate.proofs.path.ActiveBranch.activate_best_chain_step.Goals as goal
 
 -- a path leads to its block, from a block of the active branch

@@ -5,8 +5,8 @@ use Rattle.chain.specs.Regtest.{regtest}
 use Rattle.chain.specs.Valid.{branch_connects}
 use Rattle.activate.specs.CoreState.{coins_after}
 use Rattle.activate.specs.inside.Ascents.{top_of, IsTop}
-use Rattle.activate.specs.laws.Climbing.{top-above}
-use Rattle.activate.proofs.Wanted.{where_none}
+use Rattle.activate.specs.laws.WalkUp.{top-above}
+use Rattle.activate.proofs.WantsOfBlocks.{where_none}
 use Rattle.activate.proofs.path.ActiveBranch.try_block.Goals as goal
 
 ok_part : {T E : Type 0} (P : T → Type 0) (r : Result T E) (x : T) → r ≡ Ok x → IfOk r P → P x

@@ -5,7 +5,7 @@ use Rattle.block.specs.declared.block.Block.{Block}
 use Rattle.coins.specs.declared.coin.Coin.{Coin}
 use Rattle.coins.specs.Coins.{Coins, Layer}
 use Rattle.connect.specs.ConnectedBlock.{IsConnected}
-use Rattle.connect.specs.Setting.{Setting}
+use Rattle.connect.specs.BlockContext.{Setting}
 use Rattle.connect.specs.Turns.{effect, undo_of}
 use Rattle.connect.specs.laws.Scripts.{fault-found}
 use Rattle.connect.specs.laws.Stops.{none_wanted, wanted_weaker}
@@ -24,9 +24,9 @@ use Rattle.activate.specs.declared.path.BranchPath.{BranchPath}
 use Rattle.activate.specs.declared.path.Reorganisation.{Reorganisation}
 use Rattle.activate.specs.inside.Ascents.{top_of, AreMore, IsApplied, IsTop}
 use Rattle.activate.specs.inside.Paths.{AreWantedOnWay, FailsAt, IsAttempt, IsPath, IsStop}
-use Rattle.activate.specs.laws.Climbing.{top-above}
+use Rattle.activate.specs.laws.WalkUp.{top-above}
 use Rattle.activate.proofs.InHand.{fault-tip, leads_new, path_new, setting-tip, stop_below, stop_own, undo_grown, wanted_own, wanted_there}
-use Rattle.activate.proofs.Wanted.{each_weaker, wanted_all-weaker, wanted_more, wanted_new, wanted_none, where_none, where_some}
+use Rattle.activate.proofs.WantsOfBlocks.{each_weaker, wanted_all-weaker, wanted_more, wanted_new, wanted_none, where_none, where_some}
 use Rattle.activate.proofs.path.ActiveBranch.try_new_block.Goals as goal
 
 ok_part : {T E : Type 0} (P : T → Type 0) (r : Result T E) (x : T) → r ≡ Ok x → IfOk r P → P x

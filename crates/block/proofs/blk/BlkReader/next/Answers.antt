@@ -1,7 +1,7 @@
 use Rattle.std.proofs.Common.{List, ℕ, sym, ap, subst}
 use Rattle.block.specs.Blk.{IsRecord}
 use Rattle.block.specs.Progress.{Progress}
-use Rattle.block.proofs.OneReading.{told_record}
+use Rattle.block.proofs.UniqueRecord.{told_record}
 use Rattle.block.proofs.blk.BlkReader.next.Goals as goal
 
 pub returns-in-Ok-Some-clause-reads : goal.returns-in-Ok-Some-clause-reads

@@ -2,7 +2,7 @@ use Rattle.std.proofs.Common.{rules, ◌≡◌, length, [], ◌∷◌, refl, ap,
 use Rattle.coins.specs.Coins.{Coins, Layer}
 use Rattle.coins.specs.Entries.{Entries, over, IsSound}
 use Rattle.coins.proofs.Layers.{always_err, over_none}
-use Rattle.coins.proofs.Merging.{padded_sound, padded_over, merged_over, merged_sound}
+use Rattle.coins.proofs.LayersMerge.{padded_sound, padded_over, merged_over, merged_sound}
 use Rattle.coins.proofs.cache.Cache.absorb.Goals as goal
 
 pub invariant_of-self : goal.invariant_of-self

@@ -1,8 +1,8 @@
 use Rattle.std.proofs.Common.{◌≡◌, sym, subst}
 use Rattle.coins.specs.Coins.{Layer}
 use Rattle.coins.specs.Changes.{Changes, AreChanges}
-use Rattle.coins.specs.laws.Changing.{laid-changes}
-use Rattle.coins.proofs.Listing.{are_changes}
+use Rattle.coins.specs.laws.Changes.{laid-changes}
+use Rattle.coins.proofs.LayerChanges.{are_changes}
 use Rattle.coins.proofs.cache.Cache.into_changes.Goals as goal
 
 seen : (x l : Layer) (ds cs : Changes) → x ≡ l → cs ≡ ds → AreChanges x.base x.coins ds → AreChanges l.base l.coins cs

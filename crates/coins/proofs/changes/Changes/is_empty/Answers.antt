@@ -1,6 +1,6 @@
 use Rattle.std.proofs.Common.{length, sym, ap, ◌∙◌}
 use Rattle.coins.specs.Changes.{Changes}
-use Rattle.coins.proofs.Naming.{named_length, named_none}
+use Rattle.coins.proofs.EntryNames.{named_length, named_none}
 use Rattle.coins.proofs.changes.Changes.is_empty.Goals as goal
 
 pub returns : goal.returns

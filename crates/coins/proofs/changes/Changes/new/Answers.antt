@@ -1,4 +1,4 @@
-use Rattle.coins.proofs.Naming.{in_order-named}
+use Rattle.coins.proofs.EntryNames.{in_order-named}
 use Rattle.coins.proofs.changes.Changes.new.Goals as goal
 
 pub invariant_of-result : goal.invariant_of-result

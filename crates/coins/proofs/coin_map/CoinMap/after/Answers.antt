@@ -3,7 +3,7 @@ use Rattle.std.specs.Option.{option_copied, option_map}
 use Rattle.std.specs.Map.Iter.{deref_pair}
 use Rattle.coins.specs.Coins.{Coins, few_and_many}
 use Rattle.coins.specs.Next.{IsNext}
-use Rattle.coins.proofs.Following.{one_follows}
+use Rattle.coins.proofs.NextCoins.{one_follows}
 use Rattle.coins.proofs.coin_map.CoinMap.after.Goals as goal
 
 pub returns-in-None : goal.returns-in-None

@@ -5,7 +5,7 @@ use Rattle.std.specs.Prelude.{is_some}
 use Rattle.txn.specs.declared.outpoint.OutPoint.{OutPoint}
 use Rattle.coins.specs.Coins.{Coin, Coins}
 use Rattle.coins.specs.Next.{IsNext}
-use Rattle.coins.proofs.Following.{least_of_all, next_place, some_of}
+use Rattle.coins.proofs.NextCoins.{least_of_all, next_place, some_of}
 use Rattle.coins.proofs.shards.Shards.after.Goals as goal
 
 pub returns-in-Some : goal.returns-in-Some

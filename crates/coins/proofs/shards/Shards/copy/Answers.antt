@@ -3,7 +3,7 @@ use Rattle.std.proofs.lemmas.Slice.Zip.{AllZip-long}
 use Rattle.std.specs.FinMap as map
 use Rattle.coins.specs.Coins.{Coins}
 use Rattle.coins.specs.inside.Shards.{AreOfBytes}
-use Rattle.coins.proofs.Copying.{same_gathered, same_own}
+use Rattle.coins.proofs.MapCopies.{same_gathered, same_own}
 use Rattle.coins.proofs.shards.Shards.copy.Goals as goal
 
 pub invariant_of-result : goal.invariant_of-result

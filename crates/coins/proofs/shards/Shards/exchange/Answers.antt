@@ -6,7 +6,7 @@ use Rattle.txn.specs.declared.outpoint.OutPoint.{OutPoint}
 use Rattle.coins.specs.Coins.{Coin, Coins}
 use Rattle.coins.specs.inside.Shards.{AreOfBytes, AreShards, together}
 use Rattle.coins.specs.laws.Lookups.{entry_for}
-use Rattle.coins.proofs.Gathering.{IsWritten, any_err, bytes_put, found, shards_kept, shards_written, together_kept, together_written}
+use Rattle.coins.proofs.ManyMaps.{IsWritten, any_err, bytes_put, found, shards_kept, shards_written, together_kept, together_written}
 use Rattle.coins.proofs.shards.Shards.exchange.Goals as goal
 
 pub invariant_of-self : goal.invariant_of-self

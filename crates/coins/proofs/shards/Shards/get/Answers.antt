@@ -5,7 +5,7 @@ use Rattle.std.specs.FinMap as map
 use Rattle.txn.specs.declared.outpoint.OutPoint.{OutPoint}
 use Rattle.coins.specs.Coins.{Coin, Coins}
 use Rattle.coins.specs.laws.Lookups.{entry_for}
-use Rattle.coins.proofs.Gathering.{found}
+use Rattle.coins.proofs.ManyMaps.{found}
 use Rattle.coins.proofs.shards.Shards.get.Goals as goal
 
 pub returns : goal.returns

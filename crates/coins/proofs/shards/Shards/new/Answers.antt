@@ -1,6 +1,6 @@
 use Rattle.std.proofs.Common.{length, ◌+◌, ◌∷◌, [], sym, ap, subst, ◌∙◌, length-append, arith}
 use Rattle.coins.specs.inside.Shards.{Maps}
-use Rattle.coins.proofs.Gathering.{AreEmpty, bytes_empty, one_more_empty, shards_empty, together_empty}
+use Rattle.coins.proofs.ManyMaps.{AreEmpty, bytes_empty, one_more_empty, shards_empty, together_empty}
 use Rattle.coins.proofs.shards.Shards.new.Goals as goal
 
 pub loop-preserved : goal.loop-preserved

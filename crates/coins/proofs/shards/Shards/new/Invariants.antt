@@ -1,5 +1,5 @@
 use Rattle.std.proofs.Common.{◌≡◌, length}
-use Rattle.coins.proofs.Gathering.{AreEmpty}
+use Rattle.coins.proofs.ManyMaps.{AreEmpty}
 use Rattle.coins.proofs.shards.Shards.new.Given as goal
 
 abbrev pub invariant-loop : goal.invariant-loop

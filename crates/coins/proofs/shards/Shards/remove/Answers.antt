@@ -3,7 +3,7 @@ use Rattle.std.specs.Prelude.{get_or, slice_set}
 use Rattle.std.specs.FinMap as map
 use Rattle.coins.specs.Coins.{Coins}
 use Rattle.coins.specs.inside.Shards.{AreOfBytes, AreShards, together}
-use Rattle.coins.proofs.Gathering.{IsWritten, bytes_put, shards_written, together_written}
+use Rattle.coins.proofs.ManyMaps.{IsWritten, bytes_put, shards_written, together_written}
 use Rattle.coins.proofs.shards.Shards.remove.Goals as goal
 
 pub invariant_of-self : goal.invariant_of-self

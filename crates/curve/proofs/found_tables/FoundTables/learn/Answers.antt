@@ -1,6 +1,6 @@
 use Rattle.std.proofs.Common.{ap, ◌∙◌}
 use Rattle.curve.specs.Known.{verdict_in}
-use Rattle.curve.proofs.Learning.{apart-valid, apart-invalid}
+use Rattle.curve.proofs.NewVerdict.{apart-valid, apart-invalid}
 use Rattle.curve.proofs.found_tables.FoundTables.learn.Goals as goal
 
 pub invariant_of-self : goal.invariant_of-self

@@ -1,6 +1,6 @@
 use Rattle.std.proofs.Common.{◌∙◌, List, ℕ, subst, rules}
-use Rattle.durable.specs.Keeping.{KeepsBetween}
-use Rattle.durable.proofs.Keeping.{joined}
+use Rattle.durable.specs.KeptSteps.{KeepsBetween}
+use Rattle.durable.proofs.FileCalls.{joined}
 use Rattle.durable.proofs.Sound.{one_went}
 use Rattle.durable.specs.Log.{history}
 use Rattle.durable.proofs.log.Log.let_go.Goals as goal

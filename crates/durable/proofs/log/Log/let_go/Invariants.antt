@@ -1,5 +1,5 @@
 use Rattle.std.proofs.Common.{◌≡◌, ◌++◌, take}
-use Rattle.durable.specs.Keeping.{told, KeepsBetween}
+use Rattle.durable.specs.KeptSteps.{told, KeepsBetween}
 use Rattle.durable.specs.Log.{history, as_told, IsSound}
 use Rattle.durable.proofs.log.Log.let_go.Given as goal
 

@@ -1,8 +1,8 @@
 use Rattle.std.proofs.Common.{sym, subst, List, ap}
 use Rattle.durable.specs.Lines.{lines}
 use Rattle.durable.specs.Crash.{Event}
-use Rattle.durable.specs.Keeping.{KeepsNow, KeepsBetween}
-use Rattle.durable.proofs.Opening.{opened_now}
+use Rattle.durable.specs.KeptSteps.{KeepsNow, KeepsBetween}
+use Rattle.durable.proofs.CutEnd.{opened_now}
 use Rattle.durable.proofs.log.Log.open.Goals as goal
 
 pub returns-clause-any_moment : goal.returns-clause-any_moment

@@ -1,7 +1,7 @@
 use Rattle.std.proofs.Common.{List, ℕ, subst}
-use Rattle.durable.specs.Keeping.{KeepsBetween}
+use Rattle.durable.specs.KeptSteps.{KeepsBetween}
 use Rattle.durable.specs.Log.{history}
-use Rattle.durable.proofs.Keeping.{joined}
+use Rattle.durable.proofs.FileCalls.{joined}
 use Rattle.durable.proofs.log.Log.round.Goals as goal
 
 pub returns-clause-any_moment : goal.returns-clause-any_moment

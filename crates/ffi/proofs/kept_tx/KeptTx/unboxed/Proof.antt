@@ -21,7 +21,7 @@ use Rattle.std.proofs.BoxSteps.Form.{D, B, word, box_typed}
 use Rattle.std.proofs.BoxSteps.Steps.{box_out, box_in}
 use Rattle.ffi.proofs.AsBox.{on_one}
 use Rattle.ffi.proofs.AsTxBox.{E, TheKeptTx}
-use Rattle.sighash.specs.contracts.precomputed.PrecomputedTx as tx
+use Rattle.sighash.specs.contracts.precomputed_tx.PrecomputedTx as tx
 use Rattle.ffi.specs.contracts.kept_tx.KeptTx.{the_row as kept_row}
 use Rattle.ffi.specs.contracts.kept_tx.KeptTx.unboxed.{signature, ended, clauses}
 use Rattle.ffi.specs.contracts.kept_tx.KeptTx.unboxed.Key.{name}

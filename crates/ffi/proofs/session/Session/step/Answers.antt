@@ -6,7 +6,7 @@ use Rattle.curve.specs.Triple.{Triple}
 use Rattle.queue.specs.Jobs.{told_by}
 use Rattle.activate.specs.CoreState.{CoreState, WithCoins}
 use Rattle.activate.specs.Wants.{AreWantedByStep}
-use Rattle.chain.specs.Prepared.{command_of}
+use Rattle.chain.specs.PreparedCommand.{command_of}
 use Rattle.chain.specs.Commands.{outcome}
 use Rattle.chain.specs.Submission.{Outcome}
 use Rattle.ffi.specs.SessionState.{SessionState, known_of, rules_under, tree_of}

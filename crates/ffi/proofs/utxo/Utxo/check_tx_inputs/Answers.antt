@@ -8,7 +8,7 @@ use Rattle.txn.specs.Check.{tx_rules}
 use Rattle.txn.specs.First.{first_broken}
 use Rattle.txn.specs.laws.First.{first_of_both}
 use Rattle.coins.specs.Coins.{Coins}
-use Rattle.connect.specs.Setting.{Setting}
+use Rattle.connect.specs.BlockContext.{Setting}
 use Rattle.connect.specs.Turns.{turn}
 use Rattle.connect.specs.Faults.{input_rules}
 use Rattle.ffi.specs.Utxo.{tx_fault}

@@ -5,7 +5,7 @@ use Rattle.block.specs.declared.block.Block.{Block}
 use Rattle.curve.specs.Known.{Agrees}
 use Rattle.coins.specs.Changes.{Changes, after_changes}
 use Rattle.coins.specs.Coins.{Coins}
-use Rattle.connect.specs.Setting.{setting}
+use Rattle.connect.specs.BlockContext.{setting}
 use Rattle.connect.specs.ConnectedBlock.{IsConnected}
 use Rattle.ffi.specs.UtxoState.{IsBlockFault, UtxoState, known_by}
 use Rattle.ffi.proofs.utxo.Utxo.connect.Goals as goal

@@ -5,7 +5,7 @@ use Rattle.std.proofs.lemmas.List.{reverse-reverse}
 use Rattle.hex.specs.Hex.{decode_sized}
 use Rattle.hex.proofs.HexLemmas.{IsOk-decode_sized}
 use Rattle.hash.specs.declared.id.Id.{Id}
-use Rattle.hash.proofs.Reading.{decode_sized-shown}
+use Rattle.hash.proofs.IdDigits.{decode_sized-shown}
 use Rattle.hash.proofs.id.Id.read.Goals as goal
 
 pub returns-in_err-bytes-clause-reads : goal.returns-in_err-bytes-clause-reads

@@ -1,9 +1,9 @@
 use Rattle.std.proofs.Common.{◌∙◌, ap, sym, subst}
 use Rattle.interp.specs.Question.{question_of}
 use Rattle.interp.specs.Row.{Row}
-use Rattle.interp.specs.inside.Going.{GoesNamed}
-use Rattle.interp.specs.computed.Meaning.{meaning}
-use Rattle.interp.specs.computed.Named.{executed}
+use Rattle.interp.specs.inside.Outcomes.{GoesNamed}
+use Rattle.interp.specs.computed.OpcodeRow.{meaning}
+use Rattle.interp.specs.computed.NamedFailures.{executed}
 use Rattle.interp.proofs.execution.Execution.execute_or_name.Goals as goal
 
 pub returns-in-TestVerify : goal.returns-in-TestVerify

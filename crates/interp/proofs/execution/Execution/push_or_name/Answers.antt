@@ -1,7 +1,7 @@
 use Rattle.std.proofs.Common.{◌∙◌, ap}
-use Rattle.interp.specs.computed.Named.{named}
+use Rattle.interp.specs.computed.NamedFailures.{named}
 use Rattle.interp.specs.declared.script_error.ScriptError.TheVariants.{PushSize}
-use Rattle.interp.proofs.Pushing.{push-named}
+use Rattle.interp.proofs.PushFailure.{push-named}
 use Rattle.interp.proofs.execution.Execution.push_or_name.Goals as goal
 
 pub returns-then-not-branch : goal.returns-then-not-branch

@@ -1,7 +1,7 @@
 use Rattle.std.proofs.Common.{rules, ◌≡◌, None}
 use mathlib.Core.List.{IsPrefix}
 use Rattle.curve.specs.Known.{verdict_in, with_verdict}
-use Rattle.node.proofs.Growing.{learnt_more}
+use Rattle.node.proofs.Growth.{learnt_more}
 use Rattle.node.proofs.learnt.Learnt.add.Goals as goal
 
 pub invariant_of-self : goal.invariant_of-self

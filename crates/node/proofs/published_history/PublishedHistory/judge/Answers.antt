@@ -1,5 +1,5 @@
 use Rattle.std.proofs.Common.{◌≡◌, List, ap, subst}
-use Rattle.chain.specs.Prepared.{command_of}
+use Rattle.chain.specs.PreparedCommand.{command_of}
 use Rattle.chain.specs.declared.command.Command.{Command}
 use Rattle.chain.specs.declared.entry.Entry.{Entry}
 use Rattle.view.specs.Origin.{Origin}
@@ -7,7 +7,7 @@ use Rattle.node.specs.inside.Knowledge.{known_of}
 use Rattle.node.specs.inside.PublishedState.{PublishedState, IsCoreReply, IsReplyAfter}
 use Rattle.node.specs.inside.Refusal.{IsWantAfter, IsWantOf}
 use Rattle.node.proofs.DryRuns.{for_err, for_ok, replied_after}
-use Rattle.node.proofs.Knowing.{wanted_after}
+use Rattle.node.proofs.Knowledge.{wanted_after}
 use Rattle.node.proofs.published_history.PublishedHistory.judge.Goals as goal
 
 pub returns-clause-reply : goal.returns-clause-reply

@@ -1,17 +1,17 @@
 use Rattle.std.proofs.Common.{◌≡◌, List, ◌++◌, ◌∷◌, [], true, Some, None, drop, refl, ap, sym, ◌∙◌, subst}
 use Rattle.chain.specs.declared.entry.Entry.{Entry}
-use Rattle.view.specs.Beginning.{Beginning}
+use Rattle.view.specs.HistoryPrefix.{Beginning}
 use Rattle.view.specs.Origin.{Origin}
 use Rattle.view.specs.ViewState.{IsLegal}
 use Rattle.view.specs.ViewState.{ViewState}
 use Rattle.view.specs.declared.publication.Publication.{Publication}
 use Rattle.coins.specs.Changes.{Changes}
-use Rattle.node.specs.declared.published_history.pending.Pending.{Pending}
+use Rattle.node.specs.declared.published_history.owed_step.Pending.{Pending}
 use Rattle.node.specs.inside.PublishedState.{PublishedState, AreDue, IsJournal, changes_of, entry_with_reply, is_owed, owed_by}
 use Rattle.node.specs.inside.Knowledge.{IsKnowledge}
 use Rattle.node.specs.inside.LastPlaces.{AreLastPlaces}
-use Rattle.node.proofs.Knowing.{knowledge-reply}
-use Rattle.node.proofs.Owing.{of_owed, replied_core}
+use Rattle.node.proofs.Knowledge.{knowledge-reply}
+use Rattle.node.proofs.OwedEntry.{of_owed, replied_core}
 use Rattle.node.proofs.Lasts.{lasts_reply}
 use Rattle.node.proofs.Publications.{both_some, due_shut, follows, owed_again}
 use Rattle.node.proofs.published_history.PublishedHistory.publish_owed.Goals as goal

@@ -4,7 +4,7 @@ use Rattle.chain.specs.declared.command.Command.{Command}
 use Rattle.chain.specs.declared.entry.Entry.{Entry}
 use Rattle.chain.specs.History.{entry_of}
 use Rattle.chain.specs.Learnt.{IsNews}
-use Rattle.chain.specs.Prepared.{command_of}
+use Rattle.chain.specs.PreparedCommand.{command_of}
 use Rattle.view.specs.Origin.{Origin, known_in}
 use Rattle.view.specs.ViewState.{IsLegal}
 use Rattle.node.specs.inside.Kept.{IsReplyTo, IsUndecodable, is_step}
@@ -12,7 +12,7 @@ use Rattle.node.specs.inside.LastPlaces.{AreLastPlaces}
 use Rattle.node.specs.inside.PublishedState.{PublishedState, IsCoreStep, is_owed, with_entry}
 use Rattle.node.specs.inside.Refusal.{IsWantAfter}
 use Rattle.node.proofs.Cores.{step_reply, step_taken, replied_legal, owed_core, owed_changes}
-use Rattle.node.proofs.Knowing.{agrees_here, knowledge-push, wanted_after}
+use Rattle.node.proofs.Knowledge.{agrees_here, knowledge-push, wanted_after}
 use Rattle.node.proofs.Lasts.{lasts_push}
 use Rattle.node.proofs.Publications.{due_taken, if_some, last_with}
 use Rattle.std.proofs.lemmas.Result.{err_from_is_err_and}

@@ -5,7 +5,7 @@ use Rattle.view.specs.ViewState.{ViewState}
 use Rattle.node.specs.Pass.{Pass}
 use Rattle.node.specs.Told.{coins_in}
 use Rattle.node.proofs.Seen.{coins_there}
-use Rattle.node.proofs.Owning.{own_begins}
+use Rattle.node.proofs.OwnEntries.{own_begins}
 use Rattle.node.proofs.seat.Seat.coins_from.Goals as goal
 
 pub returns-in_default-clause-own : goal.returns-in_default-clause-own

@@ -1,6 +1,6 @@
 use Rattle.std.proofs.Common.{[], refl}
 use Rattle.std.proofs.lemmas.List.{append-nil}
-use Rattle.node.proofs.Owning.{own_begins}
+use Rattle.node.proofs.OwnEntries.{own_begins}
 use Rattle.node.proofs.seat.Seat.early_jobs.Goals as goal
 
 pub returns-in_default-block-clause-own : goal.returns-in_default-block-clause-own

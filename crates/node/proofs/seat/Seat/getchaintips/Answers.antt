@@ -4,7 +4,7 @@ use Rattle.view.specs.ViewState.{ViewState}
 use Rattle.node.specs.Pass.{Pass}
 use Rattle.node.specs.Told.{shown_tips}
 use Rattle.node.proofs.Seen.{read_there}
-use Rattle.node.proofs.Owning.{own_begins}
+use Rattle.node.proofs.OwnEntries.{own_begins}
 use Rattle.node.proofs.seat.Seat.getchaintips.Goals as goal
 
 pub returns-in_default-clause-own : goal.returns-in_default-clause-own

@@ -1,4 +1,4 @@
-use Rattle.node.proofs.Owning.{own_begins}
+use Rattle.node.proofs.OwnEntries.{own_begins}
 use Rattle.node.proofs.seat.Seat.judge.Goals as goal
 
 pub returns-in_err-from_slice-clause-own : goal.returns-in_err-from_slice-clause-own

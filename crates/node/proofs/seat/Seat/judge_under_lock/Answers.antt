@@ -1,5 +1,5 @@
 use Rattle.std.proofs.Common.{◌≡◌, List, ap, sym, ◌∙◌}
-use Rattle.chain.specs.Prepared.{command_of}
+use Rattle.chain.specs.PreparedCommand.{command_of}
 use Rattle.chain.specs.declared.command.Command.{Command}
 use Rattle.chain.specs.declared.entry.Entry.{Entry}
 use Rattle.view.specs.Origin.{Origin}
@@ -7,7 +7,7 @@ use Rattle.node.specs.Pass.{Pass}
 use Rattle.node.specs.Told.{reply_to}
 use Rattle.node.specs.inside.PublishedState.{PublishedState}
 use Rattle.node.proofs.DryRuns.{never_marked}
-use Rattle.node.proofs.Owning.{own_begins}
+use Rattle.node.proofs.OwnEntries.{own_begins}
 use Rattle.node.proofs.Seen.{read_after}
 use Rattle.node.proofs.seat.Seat.judge_under_lock.Goals as goal
 

@@ -3,7 +3,7 @@ use Rattle.std.proofs.lemmas.List.{append-nil}
 use Rattle.curve.specs.Triple.{Triple}
 use Rattle.connect.proofs.Steps.{take_item}
 use Rattle.node.specs.Runs.{Learns}
-use Rattle.node.proofs.Owning.{own_begins}
+use Rattle.node.proofs.OwnEntries.{own_begins}
 use Rattle.node.proofs.Verdicts.{learns_one, later_still}
 use Rattle.node.proofs.seat.Seat.learn_all.Goals as goal
 

@@ -1,5 +1,5 @@
-use Rattle.chain.specs.Prepared.{command_of}
-use Rattle.node.proofs.Answering.{mark_news}
+use Rattle.chain.specs.PreparedCommand.{command_of}
+use Rattle.node.proofs.StepAnswers.{mark_news}
 use Rattle.node.proofs.seat.Seat.mark.Goals as goal
 
 pub write-requires-clause-ordinary : goal.write-requires-clause-ordinary

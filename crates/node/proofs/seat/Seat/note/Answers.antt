@@ -1,4 +1,4 @@
-use Rattle.node.proofs.Owning.{own_begins}
+use Rattle.node.proofs.OwnEntries.{own_begins}
 use Rattle.node.proofs.seat.Seat.note.Goals as goal
 
 pub returns-clause-own : goal.returns-clause-own

@@ -1,4 +1,4 @@
-use Rattle.node.proofs.Owning.{own_begins}
+use Rattle.node.proofs.OwnEntries.{own_begins}
 use Rattle.node.proofs.seat.Seat.see_all.Goals as goal
 
 pub returns-then-not-begins-clause-own : goal.returns-then-not-begins-clause-own

@@ -2,7 +2,7 @@ use Rattle.std.proofs.Common.{◌≡◌, ap, sym}
 use Rattle.view.specs.Origin.{Origin}
 use Rattle.node.specs.Pass.{Pass}
 use Rattle.node.specs.Told.{undo_in}
-use Rattle.node.proofs.Owning.{own_begins}
+use Rattle.node.proofs.OwnEntries.{own_begins}
 use Rattle.node.proofs.Seen.{read_after}
 use Rattle.node.proofs.seat.Seat.spent_under_lock.Goals as goal
 

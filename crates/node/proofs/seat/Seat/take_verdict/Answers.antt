@@ -1,4 +1,4 @@
-use Rattle.node.proofs.Answering.{answer_learnt}
+use Rattle.node.proofs.StepAnswers.{answer_learnt}
 use Rattle.node.proofs.seat.Seat.take_verdict.Goals as goal
 
 pub returns-clause-answer : goal.returns-clause-answer

@@ -1,4 +1,4 @@
-use Rattle.node.proofs.Owning.{own_begins}
+use Rattle.node.proofs.OwnEntries.{own_begins}
 use Rattle.node.proofs.seat.Seat.told.Goals as goal
 
 pub returns-else-begins-clause-own : goal.returns-else-begins-clause-own

@@ -4,12 +4,12 @@ use mathlib.Core.List.{IsPrefix}
 use Rattle.chain.specs.declared.command.Command.{Command}
 use Rattle.chain.specs.declared.entry.Entry.{Entry}
 use Rattle.chain.specs.History.{own_of, entry_of}
-use Rattle.chain.specs.Prepared.{command_of}
+use Rattle.chain.specs.PreparedCommand.{command_of}
 use Rattle.node.specs.Pass.{owed_entry}
 use Rattle.node.specs.inside.Kept.{IsReplyTo}
 use Rattle.node.specs.inside.PublishedState.{PublishedState, IsStepAnswer}
-use Rattle.node.proofs.Answering.{answer_step}
-use Rattle.node.proofs.Owning.{begins_whole, own_push}
+use Rattle.node.proofs.StepAnswers.{answer_step}
+use Rattle.node.proofs.OwnEntries.{begins_whole, own_push}
 use Rattle.node.proofs.seat.Seat.write_under_lock.Goals as goal
 
 pub returns-in-Ok-Some-clause-later : goal.returns-in-Ok-Some-clause-later

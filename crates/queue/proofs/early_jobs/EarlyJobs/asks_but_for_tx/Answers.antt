@@ -4,7 +4,7 @@ use Rattle.std.specs.Option.{option_map}
 use Rattle.std.proofs.lemmas.Option.{slice_get_read, slice_get-map}
 use Rattle.queue.specs.declared.early_jobs.Listed.{Listed}
 use Rattle.queue.specs.Jobs.{Batch}
-use Rattle.queue.specs.inside.Pairing.{spending_of}
+use Rattle.queue.specs.inside.KnownAnswers.{spending_of}
 use Rattle.queue.proofs.Pairs.{AsksButForTx, batch_of, test_at}
 use Rattle.queue.proofs.early_jobs.EarlyJobs.asks_but_for_tx.Goals as goal
 

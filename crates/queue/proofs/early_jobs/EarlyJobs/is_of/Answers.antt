@@ -4,7 +4,7 @@ use Rattle.std.specs.Option.{option_map}
 use Rattle.std.proofs.lemmas.Option.{slice_get_read, slice_get-map}
 use Rattle.queue.specs.declared.early_jobs.Listed.{Listed}
 use Rattle.queue.specs.Jobs.{Batch, tx_at}
-use Rattle.queue.specs.inside.Pairing.{spending_of}
+use Rattle.queue.specs.inside.KnownAnswers.{spending_of}
 use Rattle.queue.proofs.Pairs.{IsOf, batch_of, test_at, tx_read}
 use Rattle.queue.proofs.early_jobs.EarlyJobs.is_of.Goals as goal
 

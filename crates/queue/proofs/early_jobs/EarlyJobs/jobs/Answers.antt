@@ -4,9 +4,9 @@ use Rattle.sighash.specs.Midstates.{AreOf}
 use Rattle.queue.specs.declared.early_jobs.Listed.{Listed}
 use Rattle.interp.specs.Question.{question}
 use Rattle.queue.specs.Jobs.{Batch, IsThere, tx_at}
-use Rattle.queue.specs.inside.Pairing.{spending_of}
-use Rattle.queue.specs.laws.Lending.{lent_of}
-use Rattle.queue.proofs.Listing.{asked_next, asked_push, inputs_push, tx_lent}
+use Rattle.queue.specs.inside.KnownAnswers.{spending_of}
+use Rattle.queue.specs.laws.LentMidstates.{lent_of}
+use Rattle.queue.proofs.ListOfJobs.{asked_next, asked_push, inputs_push, tx_lent}
 use Rattle.queue.proofs.early_jobs.EarlyJobs.jobs.Goals as goal
 
 pub invariant_of-push : goal.invariant_of-push

@@ -8,7 +8,7 @@ use Rattle.queue.specs.declared.early_jobs.Listed.{Listed}
 use Rattle.queue.specs.declared.verdict_index.Key.{Key}
 use Rattle.interp.specs.Question.{Question}
 use Rattle.queue.specs.Jobs.{Batch, Spending, questions, tx_at}
-use Rattle.queue.specs.inside.Pairing.{first_outpoint, key_of, spending_of}
+use Rattle.queue.specs.inside.KnownAnswers.{first_outpoint, key_of, spending_of}
 use Rattle.queue.proofs.Pairs.{asks, asked_at, batch_of, first_of, some_is, tx_read}
 use Rattle.queue.proofs.early_jobs.EarlyJobs.key.Goals as goal
 

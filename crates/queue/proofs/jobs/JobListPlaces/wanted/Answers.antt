@@ -5,7 +5,7 @@ use Rattle.curve.specs.Triple.{triple_of}
 use Rattle.interp.specs.Answer.{Wants}
 use Rattle.interp.specs.Question.{question_of}
 use Rattle.interp.specs.computed.Step.{verdict}
-use Rattle.interp.specs.laws.Keeping.{want-kept}
+use Rattle.interp.specs.laws.KnownVerdicts.{want-kept}
 use Rattle.queue.specs.Jobs.{Answered, IsEarly, known_then, verdict_of}
 use Rattle.queue.proofs.Pairs.{there_is}
 use Rattle.queue.proofs.jobs.JobListPlaces.wanted.Goals as goal

@@ -1,7 +1,7 @@
 use Rattle.std.proofs.Common.{◌≡◌, None, sym, ap, ◌∙◌}
 use Rattle.std.specs.Option.{option_copied}
 use Rattle.interp.specs.Question.{question_of}
-use Rattle.queue.specs.inside.Pairing.{slot_for}
+use Rattle.queue.specs.inside.KnownAnswers.{slot_for}
 use Rattle.queue.proofs.Pairs.{if_none, none_without_slot}
 use Rattle.queue.proofs.verdict_index.Index.find.Goals as goal
 

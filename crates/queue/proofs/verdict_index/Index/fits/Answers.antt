@@ -5,7 +5,7 @@ use Rattle.queue.specs.declared.verdict_index.Slot.{Slot}
 use Rattle.interp.specs.Question.{question_of}
 use Rattle.queue.specs.Early.{answer_at}
 use Rattle.queue.specs.Jobs.{Answered, Batch, Spending, answers_to, known_then, questions}
-use Rattle.queue.specs.inside.Pairing.{IsOfSame}
+use Rattle.queue.specs.inside.KnownAnswers.{IsOfSame}
 use Rattle.queue.proofs.Pairs.{fits_by, fits_like, some_is}
 use Rattle.queue.proofs.verdict_index.Index.fits.Goals as goal
 

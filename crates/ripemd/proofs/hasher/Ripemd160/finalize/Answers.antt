@@ -1,7 +1,7 @@
 use Rattle.std.proofs.Common.{◌≡◌, ◌∙◌, ◌-◌, ◌*◌, ◌%◌, ◌^◌, ap, arith, length}
 use Rattle.ripemd.specs.Ripemd160.{ripemd160, digest_of, zeros_after}
 use Rattle.ripemd.specs.declared.state.State.{State}
-use Rattle.ripemd.proofs.Holding.{Holds_length, Holds_padded, take_padding}
+use Rattle.ripemd.proofs.HeldMessage.{Holds_length, Holds_padded, take_padding}
 use Rattle.ripemd.proofs.hasher.Ripemd160.finalize.Goals as goal
 
 pub returns : goal.returns

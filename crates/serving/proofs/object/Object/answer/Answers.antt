@@ -1,6 +1,6 @@
 use Rattle.std.proofs.Common.{sym, subst}
 use Rattle.serving.specs.Answers.{Adds, answer_members, members}
-use Rattle.serving.proofs.Joining.{then, coins_closed, tips_closed, steps_closed}
+use Rattle.serving.proofs.TokenLists.{then, coins_closed, tips_closed, steps_closed}
 use Rattle.serving.proofs.object.Object.answer.Goals as goal
 
 pub returns-in_ok-id-in-Best : goal.returns-in_ok-id-in-Best

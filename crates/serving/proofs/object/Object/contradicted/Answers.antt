@@ -1,4 +1,4 @@
-use Rattle.serving.proofs.Joining.{then}
+use Rattle.serving.proofs.TokenLists.{then}
 use Rattle.serving.proofs.object.Object.contradicted.Goals as goal
 
 pub returns : goal.returns

@@ -1,6 +1,6 @@
 use Rattle.serving.proofs.object.Object.info.Goals as goal
 use Rattle.serving.specs.Answers.{info_members}
-use Rattle.serving.proofs.Joining.{then}
+use Rattle.serving.proofs.TokenLists.{then}
 
 pub returns : goal.returns
 unfolding info_members

@@ -1,4 +1,4 @@
-use Rattle.serving.proofs.Joining.{then, spent_closed}
+use Rattle.serving.proofs.TokenLists.{then, spent_closed}
 use Rattle.serving.proofs.object.Object.spent.Goals as goal
 
 pub returns : goal.returns

@@ -3,7 +3,7 @@ use Rattle.std.proofs.lemmas.Int.{ints, to_z-of_z}
 use mir.Val.{SFits}
 use mir.Syntax.{w64}
 use Rattle.serving.proofs.object.Object.spent_coin.Goals as goal
-use Rattle.serving.proofs.Joining.{then}
+use Rattle.serving.proofs.TokenLists.{then}
 
 pub returns : goal.returns
 returns c =

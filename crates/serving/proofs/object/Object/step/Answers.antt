@@ -2,7 +2,7 @@ use Rattle.std.proofs.Common.{codes}
 use Rattle.json.specs.Json.{no_members}
 use Rattle.serving.specs.Answers.{text}
 use Rattle.serving.proofs.object.Object.step.Goals as goal
-use Rattle.serving.proofs.Joining.{then, behind_moment}
+use Rattle.serving.proofs.TokenLists.{then, behind_moment}
 
 pub returns : goal.returns
 returns c =

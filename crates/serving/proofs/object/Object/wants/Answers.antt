@@ -1,4 +1,4 @@
-use Rattle.serving.proofs.Joining.{then, wants_closed}
+use Rattle.serving.proofs.TokenLists.{then, wants_closed}
 use Rattle.serving.proofs.object.Object.wants.Goals as goal
 
 pub returns : goal.returns

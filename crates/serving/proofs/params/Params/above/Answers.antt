@@ -2,7 +2,7 @@ use Rattle.serving.proofs.params.Params.above.Goals as goal
 use Rattle.std.proofs.Common.{◌∙◌}
 use Rattle.json.specs.Value.{value_view}
 use Rattle.serving.specs.inside.Given.{given}
-use Rattle.serving.proofs.Refusing.{not-above, some-is-not-none}
+use Rattle.serving.proofs.Refusals.{not-above, some-is-not-none}
 
 pub returns-in-Err-clause-err : goal.returns-in-Err-clause-err
 returns-in-Err-clause-err c =

@@ -7,7 +7,7 @@ use Rattle.json.specs.Value.{value_view}
 use Rattle.curve.specs.Lines.{lines, IsReadable, IsFaultOf}
 use Rattle.serving.specs.Requests.{param}
 use Rattle.serving.specs.inside.Given.{given}
-use Rattle.serving.proofs.Refusing.{not_all, one_text}
+use Rattle.serving.proofs.Refusals.{not_all, one_text}
 use Rattle.serving.proofs.params.Params.lines.Goals as goal
 
 pub returns-in-Err-BadLine-clause-err : goal.returns-in-Err-BadLine-clause-err

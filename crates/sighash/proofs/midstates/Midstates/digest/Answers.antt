@@ -7,7 +7,7 @@ use Rattle.wire.specs.Grammar.{counted_list}
 use Rattle.txn.specs.Grammar.{input, output}
 use Rattle.sighash.specs.Kind.{is_alone, frees_sequences}
 use Rattle.sighash.specs.Digest.{digest_of}
-use Rattle.sighash.specs.inside.Beginning.{among, beginning}
+use Rattle.sighash.specs.inside.MessageFront.{among, beginning}
 use Rattle.sighash.proofs.Beginnings.{digest_from}
 use Rattle.sighash.proofs.midstates.Midstates.digest.Goals as goal
 

@@ -2,7 +2,7 @@ use Rattle.std.proofs.Common.{rules, ◌≡◌, ℕ, ◌+◌, ◌-◌, ◌*◌, 
 use Rattle.std.proofs.lemmas.Option.{slice_get_read}
 use Rattle.sha2.specs.declared.Sha256.{Sha256}
 use Rattle.sha2.specs.Hashers.{Holds256}
-use Rattle.sighash.specs.inside.Beginning.{beginning}
+use Rattle.sighash.specs.inside.MessageFront.{beginning}
 use Rattle.sighash.proofs.midstates.Midstates.nearest.Goals as goal
 
 pub returns-in-Some-clause-fed : goal.returns-in-Some-clause-fed

@@ -7,7 +7,7 @@ use Rattle.tree.specs.State.{State, without_marks}
 use Rattle.tree.specs.Nodes.{AreMarks, blocks_of, laid, state_of}
 use Rattle.tree.specs.inside.Nodes.{AreUsable}
 use Rattle.tree.proofs.Laid.{are_remarked, blocks_there, laid_cleared, of_lent, same_count, usable_before}
-use Rattle.tree.proofs.Marked.{comes_back}
+use Rattle.tree.proofs.MarkChanges.{comes_back}
 use Rattle.tree.proofs.overlay.Overlay.clear.Goals as goal
 
 pub related-requires-clause-kept : goal.related-requires-clause-kept

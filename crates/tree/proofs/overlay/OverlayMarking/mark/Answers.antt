@@ -7,7 +7,7 @@ use Rattle.tree.specs.State.{State, with_mark}
 use Rattle.tree.specs.Nodes.{AreMarks, laid, state_of}
 use Rattle.tree.specs.inside.Nodes.{AreUsable}
 use Rattle.tree.proofs.Laid.{are_remarked, blocks_there, laid_marked, of_lent, same_count, usable_before}
-use Rattle.tree.proofs.Marked.{comes_back}
+use Rattle.tree.proofs.MarkChanges.{comes_back}
 use Rattle.tree.proofs.overlay.OverlayMarking.mark.Goals as goal
 
 pub mark_block-requires-clause-count : goal.mark_block-requires-clause-count

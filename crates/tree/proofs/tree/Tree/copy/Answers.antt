@@ -4,7 +4,7 @@ use Rattle.tree.specs.declared.node.Mark.{Mark}
 use Rattle.tree.specs.Branches.{Blocks}
 use Rattle.tree.specs.Nodes.{blocks_of, state_of}
 use Rattle.tree.specs.inside.Nodes.{IsRight}
-use Rattle.tree.proofs.Copied.{blocks_seen, right_other, state_other}
+use Rattle.tree.proofs.SameBlocks.{blocks_seen, right_other, state_other}
 use Rattle.tree.proofs.tree.Tree.copy.Goals as goal
 
 pub invariant_of-result : goal.invariant_of-result

@@ -10,7 +10,7 @@ use Rattle.hash.specs.Id.{same_id}
 use Rattle.tree.specs.Names.{names}
 use Rattle.tree.specs.Nodes.{state_of}
 use Rattle.tree.specs.inside.Nodes.{IsRight, first_node, first_mark}
-use Rattle.tree.proofs.Opened.{opened, right_opened}
+use Rattle.tree.proofs.GenesisTree.{opened, right_opened}
 use Rattle.tree.proofs.tree.Tree.new.Goals as goal
 
 pub invariant_of-result : goal.invariant_of-result

@@ -13,7 +13,7 @@ use Rattle.tree.specs.inside.Nodes.{IsRight}
 use Rattle.tree.specs.laws.Ranks.{rank_last, rank_other}
 use Rattle.tree.proofs.Views.{kept}
 use Rattle.tree.proofs.Changes.{set_here, set_there, precious-view, right-rank}
-use Rattle.tree.proofs.Marked.{has_mark, right_set, state_ranked}
+use Rattle.tree.proofs.MarkChanges.{has_mark, right_set, state_ranked}
 use Rattle.tree.proofs.tree.Tree.precious.Goals as goal
 
 -- the calls with one more

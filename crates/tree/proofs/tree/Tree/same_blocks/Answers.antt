@@ -6,7 +6,7 @@ use Rattle.tree.specs.Branches.{Blocks}
 use Rattle.tree.specs.State.{State, opening}
 use Rattle.tree.specs.Nodes.{blocks_of}
 use Rattle.tree.specs.inside.Nodes.{IsRight}
-use Rattle.tree.proofs.Copied.{blocks_seen, can_follow, followed, none-first}
+use Rattle.tree.proofs.SameBlocks.{blocks_seen, can_follow, followed, none-first}
 use Rattle.tree.proofs.tree.Tree.same_blocks.Goals as goal
 
 pub loop-place-init : goal.loop-place-init

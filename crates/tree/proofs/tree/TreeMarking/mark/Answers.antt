@@ -9,7 +9,7 @@ use Rattle.tree.specs.Nodes.{state_of}
 use Rattle.tree.specs.inside.Nodes.{AreRemarked, AreUsable, IsRight}
 use Rattle.tree.proofs.Views.{kept}
 use Rattle.tree.proofs.Laid.{are_remarked, blocks_there, laid_marked, of_lent, own_laid, own_marks, right_laid, state_laid, usable_before}
-use Rattle.tree.proofs.Marked.{comes_back}
+use Rattle.tree.proofs.MarkChanges.{comes_back}
 use Rattle.tree.proofs.tree.TreeMarking.mark.Goals as goal
 
 pub mark_block-requires-clause-usable : goal.mark_block-requires-clause-usable

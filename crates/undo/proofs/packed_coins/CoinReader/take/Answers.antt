@@ -1,7 +1,7 @@
 use Rattle.std.proofs.Common.{◌≡◌, suc, ◌+◌, ◌-◌, List, [], ◌∷◌, ◌++◌, length, take, drop, refl, sym, ap, ◌∙◌, arith}
 use Rattle.std.proofs.lemmas.List.{length-drop}
 use Rattle.coins.specs.declared.coin.Coin.{Coin}
-use Rattle.undo.proofs.Packing.{next-there}
+use Rattle.undo.proofs.PackedList.{next-there}
 use Rattle.undo.proofs.packed_coins.CoinReader.take.Goals as goal
 
 pub next-requires : goal.next-requires

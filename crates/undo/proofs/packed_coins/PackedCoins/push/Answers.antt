@@ -1,8 +1,8 @@
 use Rattle.std.proofs.Common.{◌≡◌, ℕ, List, [], ◌∷◌, ◌++◌, ap, refl, ◌∙◌}
 use Rattle.coins.specs.declared.coin.Coin.{Coin}
 use Rattle.undo.specs.declared.coin_head.CoinHead.{CoinHead}
-use Rattle.undo.specs.inside.Packed.{coin_at, head_of, packed_coins}
-use Rattle.undo.proofs.Packing.{own-head, packed-push}
+use Rattle.undo.specs.inside.PackedCoins.{coin_at, head_of, packed_coins}
+use Rattle.undo.proofs.PackedList.{own-head, packed-push}
 use Rattle.undo.proofs.packed_coins.PackedCoins.push.Goals as goal
 
 pub returns : goal.returns

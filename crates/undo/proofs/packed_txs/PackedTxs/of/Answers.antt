@@ -1,8 +1,8 @@
 use Rattle.std.proofs.Common.{◌≡◌, ℕ, ◌+◌, List, [], ◌∷◌, ◌++◌, length, map, take, sum, sym, ap, ◌∙◌, arith}
 use Rattle.std.proofs.lemmas.List.{map-append, take_all, take_more}
 use Rattle.coins.specs.declared.coin.Coin.{Coin}
-use Rattle.undo.specs.inside.Packed.{grouped}
-use Rattle.undo.proofs.Packing.{flat, flat-long, flat-push, grouped-flat}
+use Rattle.undo.specs.inside.PackedCoins.{grouped}
+use Rattle.undo.proofs.PackedList.{flat, flat-long, flat-push, grouped-flat}
 use Rattle.undo.proofs.packed_txs.PackedTxs.of.Goals as goal
 
 abbrev Lists : Type 0

@@ -1,5 +1,5 @@
 use Rattle.std.proofs.Common.{◌≡◌, take, map, length}
-use Rattle.undo.proofs.Packing.{flat}
+use Rattle.undo.proofs.PackedList.{flat}
 use Rattle.undo.proofs.packed_txs.PackedTxs.of.Given as goal
 
 abbrev pub invariant-loop-spent : goal.invariant-loop-spent

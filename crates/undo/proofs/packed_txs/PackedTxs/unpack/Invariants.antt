@@ -1,6 +1,6 @@
 use Rattle.std.proofs.Common.{◌≡◌, ◌++◌, drop, length}
 use Rattle.std.specs.Prelude.{sum}
-use Rattle.undo.specs.inside.Packed.{grouped}
+use Rattle.undo.specs.inside.PackedCoins.{grouped}
 use Rattle.undo.proofs.packed_txs.PackedTxs.unpack.Given as goal
 
 abbrev pub invariant-loop-count : goal.invariant-loop-count

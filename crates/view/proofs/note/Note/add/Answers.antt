@@ -1,6 +1,6 @@
 use Rattle.std.proofs.Common.{◌≡◌, length, sym, ◌∙◌, ap}
-use Rattle.view.specs.Beginning.{Beginning, count_of}
-use Rattle.view.proofs.Adding.{adds_moves}
+use Rattle.view.specs.HistoryPrefix.{Beginning, count_of}
+use Rattle.view.proofs.AddedEntry.{adds_moves}
 use Rattle.view.proofs.note.Note.add.Goals as goal
 
 pub compare_exchange-found-requires : goal.compare_exchange-found-requires

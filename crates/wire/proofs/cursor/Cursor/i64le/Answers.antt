@@ -1,7 +1,7 @@
 use Rattle.std.proofs.Common.{rules, ◌≡◌, Ok, w64, to_z, of_z}
 use Rattle.wire.specs.Grammar.{signed64}
-use Rattle.wire.specs.computed.Reading.{i64_at}
-use Rattle.wire.specs.laws.Reading.{found_law, signed64_decides}
+use Rattle.wire.specs.computed.Reader.{i64_at}
+use Rattle.wire.specs.laws.Reader.{found_law, signed64_decides}
 use Rattle.wire.proofs.cursor.Cursor.i64le.Goals as goal
 
 pub returns-clause-found : goal.returns-clause-found

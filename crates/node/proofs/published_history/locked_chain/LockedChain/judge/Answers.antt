@@ -7,7 +7,7 @@ use Rattle.view.specs.ViewState.{ViewState}
 use Rattle.node.specs.declared.published_history.knowledge.Knowledge.{Knowledge}
 use Rattle.node.specs.inside.Knowledge.{known_of}
 use Rattle.node.proofs.Cores.{lent_coins}
-use Rattle.node.proofs.Knowing.{agrees_there}
+use Rattle.node.proofs.Knowledge.{agrees_there}
 use Rattle.node.proofs.published_history.locked_chain.LockedChain.judge.Goals as goal
 
 pub invariant_of-env : goal.invariant_of-env

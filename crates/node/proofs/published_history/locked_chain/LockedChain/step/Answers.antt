@@ -7,7 +7,7 @@ use Rattle.view.specs.ViewState.{ViewState}
 use Rattle.node.specs.declared.published_history.knowledge.Knowledge.{Knowledge}
 use Rattle.node.specs.inside.Knowledge.{known_of}
 use Rattle.node.proofs.Cores.{lent_coins}
-use Rattle.node.proofs.Knowing.{agrees_there, learns_there}
+use Rattle.node.proofs.Knowledge.{agrees_there, learns_there}
 use Rattle.node.proofs.published_history.locked_chain.LockedChain.step.Goals as goal
 
 pub returns-in-Learn-clause-step : goal.returns-in-Learn-clause-step

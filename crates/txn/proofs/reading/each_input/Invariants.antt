@@ -1,8 +1,0 @@
-use Rattle.std.proofs.Common.{◌≡◌, ◌-◌}
-use Rattle.wire.specs.computed.Reading.{many_at}
-use Rattle.txn.specs.computed.Reading.{tx_in_at}
-use Rattle.wire.specs.laws.Loop.{with_front}
-use Rattle.txn.proofs.reading.each_input.Given as goal
-
-abbrev pub invariant-loop : goal.invariant-loop
-invariant-loop l = with_front l.items.items (many_at tx_in_at (l.count - l.counter) l.bytes) ≡ many_at tx_in_at l.fn.count l.fn.bytes

@@ -1,5 +1,0 @@
-use Rattle.wire.specs.laws.Writing.{extends-if, extends-trans}
-use Rattle.txn.proofs.writing.put_tx_out.Goals as goal
-
-pub returns-clause-extends : goal.returns-clause-extends
-returns-clause-extends c = extends-trans _ _ _ (extends-if _ _ _ _ c.extend_from_slice.ensures.items) c.put_script.ensures.extends
