@@ -116,10 +116,10 @@ def survey(
 # A computed reading, the relation that a law ties to it in both directions, and the laws: whoever reads the relation and trusts
 # the law needn't read the computed one.
 JOINED: Dict[Tuple[str, str, str], Tuple[str, str, str, List[str]]] = {
-    ("block", "Decoding", "block_of_bytes"): (
+    ("block", "BlockOfBytes", "block_of_bytes"): (
         "block", "Grammar", "block", ["block#what_is_spelled_is_read", "block#what_is_read_is_spelled"]),
     ("connect", "computed/Scripts", "connect_fault"): ("connect", "Scripts", "IsConnectFault", ["connect#the_fault_is_computed"]),
-    ("interp", "computed/Verifying", "accepts"): ("interp", "Rules", "Accepts", ["interp#the_verdict_is_computed"]),
+    ("interp", "computed/InputVerdict", "accepts"): ("interp", "Rules", "Accepts", ["interp#the_verdict_is_computed"]),
     ("curve", "computed/Shape", "is_strict"): ("curve", "Shape", "IsStrict", ["curve#shape_test"]),
 }
 
