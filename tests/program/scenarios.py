@@ -1,4 +1,4 @@
-"""The table of scenarios, as crates/scenarios/src/table.rt and the files below it have it.
+"""The table of scenarios, as crates/workloads/src/table.rt and the files below it have it.
 
 The constants are read from these sources, so that the table stands once. What can't be read is an error: each `const`
 of the files has to be a text, a scenario, or a list of scenarios of the length that it says.
@@ -11,7 +11,7 @@ from typing import Any, NamedTuple
 
 from running import ROOT
 
-SOURCES = os.path.join(ROOT, "crates", "scenarios", "src", "table")
+SOURCES = os.path.join(ROOT, "crates", "workloads", "src", "table")
 
 # The first moment of a client.
 MOMENT = "1296688602"

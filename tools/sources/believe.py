@@ -120,7 +120,7 @@ JOINED: Dict[Tuple[str, str, str], Tuple[str, str, str, List[str]]] = {
         "block", "Grammar", "block", ["block#what_is_spelled_is_read", "block#what_is_read_is_spelled"]),
     ("connect", "computed/Scripts", "connect_fault"): ("connect", "Scripts", "IsConnectFault", ["connect#the_fault_is_computed"]),
     ("interp", "computed/InputVerdict", "accepts"): ("interp", "Rules", "Accepts", ["interp#the_verdict_is_computed"]),
-    ("curve", "computed/Shape", "is_strict"): ("curve", "Shape", "IsStrict", ["curve#shape_test"]),
+    ("signatures", "computed/Shape", "is_strict"): ("signatures", "Shape", "IsStrict", ["signatures#shape_test"]),
 }
 
 

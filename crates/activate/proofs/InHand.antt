@@ -5,8 +5,8 @@ use Rattle.std.proofs.lemmas.List.{length-map, length-reverse, reverse-append, a
 use Rattle.txn.specs.declared.reason.Reason.{Reason}
 use Rattle.hash.specs.declared.id.Id.{Id}
 use Rattle.block.specs.declared.block.Block.{Block}
-use Rattle.curve.specs.Known.{Known}
-use Rattle.curve.specs.Triple.{Triple, Triples}
+use Rattle.signatures.specs.Known.{Known}
+use Rattle.signatures.specs.Triple.{Triple, Triples}
 use Rattle.rules.specs.declared.params.Params.{Params}
 use Rattle.rules.specs.Params.{at}
 use Rattle.rules.specs.declared.in_force.InForce.{InForce}
@@ -23,13 +23,13 @@ use Rattle.tree.specs.Names.{names}
 use Rattle.tree.specs.laws.Above.{above, until, above-step}
 use Rattle.tree.specs.laws.AddedBlock.{block_there, blocks-new, blocks-old}
 use Rattle.tree.specs.laws.Branches.{branch_there, height_there, on-bounds, on-itself, on_here, on_there, parent_here, parent_there}
-use Rattle.chain.specs.Rules.{Rules}
-use Rattle.chain.specs.Replay.{replay}
-use Rattle.chain.specs.Valid.{branch_connects}
-use Rattle.chain.specs.Regtest.{medians_of, setting_on, ledger, regtest}
-use Rattle.chain.specs.laws.Coins.{replay-block}
-use Rattle.chain.specs.laws.AddedBlock.{fault_new, fault_there}
-use Rattle.chain.specs.laws.InHand.{first_own, first_below}
+use Rattle.model.specs.Rules.{Rules}
+use Rattle.model.specs.Replay.{replay}
+use Rattle.model.specs.Valid.{branch_connects}
+use Rattle.model.specs.Regtest.{medians_of, setting_on, ledger, regtest}
+use Rattle.model.specs.laws.Coins.{replay-block}
+use Rattle.model.specs.laws.AddedBlock.{fault_new, fault_there}
+use Rattle.model.specs.laws.InHand.{first_own, first_below}
 use Rattle.activate.specs.declared.path.BranchPath.{BranchPath}
 use Rattle.activate.specs.declared.path.Reorganisation.{Reorganisation}
 use Rattle.activate.specs.CoreState.{branch_blocks, coins_after}

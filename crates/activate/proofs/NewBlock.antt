@@ -3,7 +3,7 @@ use Rattle.std.proofs.Common.{◌≡◌, ℕ, suc, ◌≤◌, true, false, [], l
 use Rattle.std.specs.Option.{unwrap_or}
 use Rattle.hash.specs.declared.id.Id.{Id}
 use Rattle.block.specs.declared.block.Block.{Block}
-use Rattle.curve.specs.Triple.{Triples}
+use Rattle.signatures.specs.Triple.{Triples}
 use Rattle.txn.specs.First.{first_broken}
 use Rattle.rules.specs.Alone.{alone_rules}
 use Rattle.tree.specs.Names.{names}
@@ -18,18 +18,18 @@ use Rattle.activate.specs.declared.plan.Edit.TheVariants.{Keep}
 use Rattle.tree.specs.declared.new_block.NewBlock.{NewBlock}
 use Rattle.activate.specs.declared.plan.Completion.{Completion}
 use Rattle.activate.specs.declared.plan.Completion.TheVariants.{Nothing}
-use Rattle.chain.specs.declared.reply.SubmitReply.{SubmitReply}
-use Rattle.chain.specs.declared.reply.SubmitReply.TheVariants.{Inconclusive}
-use Rattle.chain.specs.declared.reply.Reply.{Reply}
-use Rattle.chain.specs.declared.reply.Reply.TheVariants as reply
-use Rattle.chain.specs.Faults.{IsNew}
-use Rattle.chain.specs.Regtest.{regtest}
-use Rattle.chain.specs.Rules.{Rules}
-use Rattle.chain.specs.Settle.{settle}
-use Rattle.chain.specs.Step.{Submit, step}
-use Rattle.chain.specs.Submission.{Outcome, answer_added, submit_says}
-use Rattle.chain.specs.laws.SettledState.{settle-blocks}
-use Rattle.chain.specs.laws.Steps.{faultless-alone, faultless-parent, step-added, step-beside}
+use Rattle.model.specs.declared.reply.SubmitReply.{SubmitReply}
+use Rattle.model.specs.declared.reply.SubmitReply.TheVariants.{Inconclusive}
+use Rattle.model.specs.declared.reply.Reply.{Reply}
+use Rattle.model.specs.declared.reply.Reply.TheVariants as reply
+use Rattle.model.specs.Faults.{IsNew}
+use Rattle.model.specs.Regtest.{regtest}
+use Rattle.model.specs.Rules.{Rules}
+use Rattle.model.specs.Settle.{settle}
+use Rattle.model.specs.Step.{Submit, step}
+use Rattle.model.specs.Submission.{Outcome, answer_added, submit_says}
+use Rattle.model.specs.laws.SettledState.{settle-blocks}
+use Rattle.model.specs.laws.Steps.{faultless-alone, faultless-parent, step-added, step-beside}
 use Rattle.activate.specs.CoreState.{CoreState, Follows, coins_of}
 use Rattle.activate.specs.inside.Paths.{IsAttempt}
 use Rattle.activate.specs.inside.Preparation.{CanTry, IsPreparationFor, IsSettledBy, IsTried, Settles, core_with_block, edited}

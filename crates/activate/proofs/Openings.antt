@@ -1,14 +1,14 @@
 -- Genesis alone.
 use Rattle.std.proofs.Common.{[], sym, arith}
 use Rattle.std.specs.FinMap as coin_map
-use Rattle.curve.specs.Triple.{Triples}
+use Rattle.signatures.specs.Triple.{Triples}
 use Rattle.rules.specs.declared.params.Params.{Params}
 use Rattle.tree.specs.State.{opening}
-use Rattle.chain.specs.Regtest.{ledger, regtest}
+use Rattle.model.specs.Regtest.{ledger, regtest}
 use Rattle.activate.specs.CoreState.{IsChainstate, opened_core}
-use Rattle.chain.specs.laws.Actives.{active_kept}
-use Rattle.chain.specs.laws.Coins.{coins-genesis}
-use Rattle.chain.specs.laws.Steps.{opening_sound}
+use Rattle.model.specs.laws.Actives.{active_kept}
+use Rattle.model.specs.laws.Coins.{coins-genesis}
+use Rattle.model.specs.laws.Steps.{opening_sound}
 
 pub opens : (params : Params) (triples : Triples) → IsChainstate (record { core = opened_core params; coins = coin_map.empty }) triples
 opens params triples =

@@ -1,25 +1,25 @@
 -- What holds of the states that commands leave.
 use Rattle.std.proofs.Common.{◌≡◌, refl, sym, ap, subst}
 use Rattle.block.specs.declared.block.Block.{Block}
-use Rattle.curve.specs.Triple.{Triples}
+use Rattle.signatures.specs.Triple.{Triples}
 use Rattle.rules.specs.declared.params.Params.{Params}
 use Rattle.tree.specs.State.{State}
-use Rattle.chain.specs.declared.command.Command.{Command}
+use Rattle.model.specs.declared.command.Command.{Command}
 use Rattle.hash.specs.declared.id.Id.{Id}
 use Rattle.activate.specs.declared.plan.Prepared.{Prepared}
 use Rattle.activate.specs.declared.plan.Completion.{Completion}
 use Rattle.activate.specs.declared.plan.Completion.TheVariants.{Nothing, Flag, Activate}
-use Rattle.chain.specs.Rules.{Rules}
-use Rattle.chain.specs.Submission.{Outcome}
-use Rattle.chain.specs.Settle.{active}
-use Rattle.chain.specs.Commands.{outcome}
-use Rattle.chain.specs.StateInvariant.{IsSettled, AllKept}
-use Rattle.chain.specs.Regtest.{regtest}
+use Rattle.model.specs.Rules.{Rules}
+use Rattle.model.specs.Submission.{Outcome}
+use Rattle.model.specs.Settle.{active}
+use Rattle.model.specs.Commands.{outcome}
+use Rattle.model.specs.StateInvariant.{IsSettled, AllKept}
+use Rattle.model.specs.Regtest.{regtest}
 use Rattle.activate.specs.CoreState.{CoreState, Follows}
 use Rattle.activate.specs.inside.Preparation.{IsPreparation, core_after_commit, core_after_finish, edited}
-use Rattle.chain.specs.laws.Outcomes.{each-outcome}
-use Rattle.chain.specs.laws.Steps.{step_sound}
-use Rattle.chain.specs.laws.Kept.{step_kept}
+use Rattle.model.specs.laws.Outcomes.{each-outcome}
+use Rattle.model.specs.laws.Steps.{step_sound}
+use Rattle.model.specs.laws.Kept.{step_kept}
 
 -- the rules stay
 params_after : (r : Rules Block Id) (b : CoreState) (rest : Completion) → (core_after_finish r b rest).params ≡ b.params

@@ -17,23 +17,23 @@ use Rattle.tree.specs.laws.Sets.{has_here, has_there, in_order-joined}
 use Rattle.tree.specs.laws.Above.{above, above-end, above-step}
 use Rattle.activate.specs.declared.plan.Completion.{Completion}
 use Rattle.activate.specs.declared.plan.Completion.TheVariants.{Flag, Activate}
-use Rattle.chain.specs.declared.reply.SubmitReply.TheVariants.{Accepted, Inconclusive, Rejected}
+use Rattle.model.specs.declared.reply.SubmitReply.TheVariants.{Accepted, Inconclusive, Rejected}
 use Rattle.activate.specs.declared.path.FailedTry.{FailedTry}
 use Rattle.activate.specs.declared.path.Reorganisation.{Reorganisation}
-use Rattle.chain.specs.Rules.{Rules}
-use Rattle.chain.specs.Valid.{fault, branch_connects, first_to_fail}
-use Rattle.chain.specs.Settle.{active, settle, on_candidate, becomes_bad, becomes_seen}
-use Rattle.chain.specs.Submission.{answer_added, reply_by_reason}
-use Rattle.chain.specs.Try.{fails_on, passes_on, state_after_try}
-use Rattle.chain.specs.StateInvariant.{IsSettled, AllKept}
+use Rattle.model.specs.Rules.{Rules}
+use Rattle.model.specs.Valid.{fault, branch_connects, first_to_fail}
+use Rattle.model.specs.Settle.{active, settle, on_candidate, becomes_bad, becomes_seen}
+use Rattle.model.specs.Submission.{answer_added, reply_by_reason}
+use Rattle.model.specs.Try.{fails_on, passes_on, state_after_try}
+use Rattle.model.specs.StateInvariant.{IsSettled, AllKept}
 use Rattle.activate.specs.CoreState.{CoreState, coins_after, coins_of}
 use Rattle.activate.specs.inside.Paths.{LeadsTo, FailsAt}
 use Rattle.activate.specs.inside.Preparation.{IsOneTry, TriesLead, CanTry, Settles, reply_to_failed_try}
-use Rattle.chain.specs.laws.Actives.{active_kept, active_valid}
-use Rattle.chain.specs.laws.Candidates.{never_fails, same_first, on_candidate_from}
+use Rattle.model.specs.laws.Actives.{active_kept, active_valid}
+use Rattle.model.specs.laws.Candidates.{never_fails, same_first, on_candidate_from}
 use Rattle.activate.specs.laws.TryNotes.{above-on}
-use Rattle.chain.specs.laws.SettledState.{active-settle, settle-blocks, active_seen, bad_in-order, seen_in-order}
-use Rattle.chain.specs.laws.Tries.{tried-blocks, tried-precious, genesis-tried, active-tried, settle-tried, best-candidate, active-best, settle-best, was_on_candidate, count_without_mark, unmarked-tried}
+use Rattle.model.specs.laws.SettledState.{active-settle, settle-blocks, active_seen, bad_in-order, seen_in-order}
+use Rattle.model.specs.laws.Tries.{tried-blocks, tried-precious, genesis-tried, active-tried, settle-tried, best-candidate, active-best, settle-best, was_on_candidate, count_without_mark, unmarked-tried}
 
 module _ (r : Rules Block Id) where
   -- a followed chainstate can be tried

@@ -23,28 +23,28 @@ use Rattle.activate.specs.declared.plan.Edit.{Edit}
 use Rattle.activate.specs.declared.plan.Edit.TheVariants.{Remark}
 use Rattle.activate.specs.declared.plan.Completion.{Completion}
 use Rattle.activate.specs.declared.plan.Completion.TheVariants.{Nothing, Activate}
-use Rattle.chain.specs.declared.reply.Reply.{Reply}
-use Rattle.chain.specs.declared.reply.Reply.TheVariants as reply
-use Rattle.chain.specs.declared.reply.SubmitReply.{SubmitReply}
-use Rattle.chain.specs.declared.reply.MarkReply.TheVariants.{Done}
+use Rattle.model.specs.declared.reply.Reply.{Reply}
+use Rattle.model.specs.declared.reply.Reply.TheVariants as reply
+use Rattle.model.specs.declared.reply.SubmitReply.{SubmitReply}
+use Rattle.model.specs.declared.reply.MarkReply.TheVariants.{Done}
 use Rattle.activate.specs.declared.path.Reorganisation.{Reorganisation}
-use Rattle.chain.specs.Rules.{Rules}
-use Rattle.chain.specs.Valid.{branch_connects}
-use Rattle.chain.specs.Settle.{active, settle}
-use Rattle.chain.specs.Submission.{Outcome, submit_says, answer_added, outcome_of_added}
-use Rattle.chain.specs.Step.{mark_says}
-use Rattle.chain.specs.StateInvariant.{IsSettled}
-use Rattle.chain.specs.Replay.{replay}
-use Rattle.chain.specs.Regtest.{ledger}
+use Rattle.model.specs.Rules.{Rules}
+use Rattle.model.specs.Valid.{branch_connects}
+use Rattle.model.specs.Settle.{active, settle}
+use Rattle.model.specs.Submission.{Outcome, submit_says, answer_added, outcome_of_added}
+use Rattle.model.specs.Step.{mark_says}
+use Rattle.model.specs.StateInvariant.{IsSettled}
+use Rattle.model.specs.Replay.{replay}
+use Rattle.model.specs.Regtest.{ledger}
 use Rattle.activate.specs.CoreState.{CoreState, coins_after, coins_of}
 use Rattle.activate.specs.inside.Preparation.{CanActivate, CanEdit, CanFinish, CanTry, HasOtherMarks, IsOneTry, IsPreparationFor, ChangesNothing, Settles, TriesLead, core_after_activation, core_after_commit, core_after_finish, edited}
-use Rattle.chain.specs.laws.Actives.{active_kept, active_usable, active_valid}
-use Rattle.chain.specs.laws.AddedBlock.{valid_there}
-use Rattle.chain.specs.laws.Ordinary.{active-beside, settle-beside}
-use Rattle.chain.specs.laws.Precious.{usable-called}
-use Rattle.chain.specs.laws.SettledState.{active-settle, settle-blocks, best_usable}
-use Rattle.chain.specs.laws.OneTry.{active-added_bad, active-called_bad, settle-added, settle-called}
-use Rattle.chain.specs.laws.Tries.{active-best, settle-best, tried-blocks}
+use Rattle.model.specs.laws.Actives.{active_kept, active_usable, active_valid}
+use Rattle.model.specs.laws.AddedBlock.{valid_there}
+use Rattle.model.specs.laws.Ordinary.{active-beside, settle-beside}
+use Rattle.model.specs.laws.Precious.{usable-called}
+use Rattle.model.specs.laws.SettledState.{active-settle, settle-blocks, best_usable}
+use Rattle.model.specs.laws.OneTry.{active-added_bad, active-called_bad, settle-added, settle-called}
+use Rattle.model.specs.laws.Tries.{active-best, settle-best, tried-blocks}
 use Rattle.activate.specs.Lookups.{undo_at}
 use Rattle.activate.specs.inside.Paths.{IsPath, LeadsTo}
 use Rattle.activate.proofs.Plans.{no_changes}

@@ -15,14 +15,14 @@ use Rattle.activate.specs.declared.path.BranchPath.{BranchPath}
 use Rattle.activate.specs.declared.plan.Prepared.{Prepared}
 use Rattle.activate.specs.declared.plan.Completion.{Completion}
 use Rattle.activate.specs.declared.plan.Completion.TheVariants.{Nothing, Flag, Activate}
-use Rattle.curve.specs.Triple.{Triples}
-use Rattle.chain.specs.declared.command.Command.{Command}
-use Rattle.chain.specs.Regtest.{regtest}
-use Rattle.chain.specs.Rules.{Rules}
-use Rattle.chain.specs.Try.{state_after_try}
-use Rattle.chain.specs.Submission.{Outcome}
-use Rattle.chain.specs.laws.Actives.{active_kept}
-use Rattle.chain.specs.laws.Tries.{tried-blocks}
+use Rattle.signatures.specs.Triple.{Triples}
+use Rattle.model.specs.declared.command.Command.{Command}
+use Rattle.model.specs.Regtest.{regtest}
+use Rattle.model.specs.Rules.{Rules}
+use Rattle.model.specs.Try.{state_after_try}
+use Rattle.model.specs.Submission.{Outcome}
+use Rattle.model.specs.laws.Actives.{active_kept}
+use Rattle.model.specs.laws.Tries.{tried-blocks}
 use Rattle.activate.specs.CoreState.{CoreState, Follows, HasOneMore, UndoFollows, lesser_of, most_undo}
 use Rattle.activate.specs.inside.Paths.{IsPath}
 use Rattle.activate.specs.inside.Preparation.{CanActivate, CanFinish, IsPreparation, IsPreparationFor, core_after_activation, core_after_commit, core_after_finish, edited, undo_after}

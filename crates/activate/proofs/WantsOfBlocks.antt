@@ -7,8 +7,8 @@ use Rattle.std.proofs.lemmas.List.Concat.{flat_map-append}
 use Rattle.std.proofs.lemmas.List.Elements.{All-cons, All-nil, All-push, All-weaker}
 use Rattle.std.proofs.lemmas.Bool.{false_from_ne_true}
 use Rattle.block.specs.declared.block.Block.{Block}
-use Rattle.curve.specs.Known.{Known, Under}
-use Rattle.curve.specs.Triple.{Triple}
+use Rattle.signatures.specs.Known.{Known, Under}
+use Rattle.signatures.specs.Triple.{Triple}
 use Rattle.queue.specs.FirstAnswer.{AreOfBoth}
 use Rattle.txn.specs.declared.tx.Tx.{Tx}
 use Rattle.coins.specs.Coins.{Coins}
@@ -24,12 +24,12 @@ use Rattle.tree.specs.State.{State, has_no_mark, with_block}
 use Rattle.tree.specs.laws.Above.{IsShared}
 use Rattle.tree.specs.laws.AddedBlock.{block_here, blocks-old}
 use Rattle.tree.specs.laws.Branches.{on-bounds, parent_here}
-use Rattle.chain.specs.Regtest.{ledger, regtest, setting_on}
-use Rattle.chain.specs.Replay.{replay}
-use Rattle.chain.specs.Settle.{on_candidate}
-use Rattle.chain.specs.Step.{Request}
-use Rattle.chain.specs.laws.Candidates.{on_candidate_from}
-use Rattle.chain.specs.laws.Tries.{best-candidate}
+use Rattle.model.specs.Regtest.{ledger, regtest, setting_on}
+use Rattle.model.specs.Replay.{replay}
+use Rattle.model.specs.Settle.{on_candidate}
+use Rattle.model.specs.Step.{Request}
+use Rattle.model.specs.laws.Candidates.{on_candidate_from}
+use Rattle.model.specs.laws.Tries.{best-candidate}
 use Rattle.activate.specs.CoreState.{CoreState, branch_blocks, coins_after}
 use Rattle.activate.specs.Wants.{IsToSettle, AreJoined, AreWantedAt, AreWantedBy, AreWantedByTried, AreWantedToSettle}
 use Rattle.activate.specs.inside.Ascents.{AreMore, AreWantedAbove}

@@ -3,17 +3,17 @@ use Rattle.std.specs.Prelude.{◌≡◌, ℕ, suc, ◌+◌, ◌-◌, ◌<◌, na
 use Rattle.block.specs.declared.block.Block.{Block}
 use Rattle.block.specs.BlockOfBytes.{block_of_bytes}
 use Rattle.block.specs.StoredBlock.{genesis_alone}
-use Rattle.curve.specs.Triple.{Triples}
+use Rattle.signatures.specs.Triple.{Triples}
 use Rattle.coins.specs.Coins.{Coins}
 use Rattle.rules.specs.declared.params.Params.{Params}
 use Rattle.tree.specs.Branches.{Blocks, block_at, branch, height, parent_at, blocks_at}
 use Rattle.tree.specs.Tips.{last_shared}
 use Rattle.tree.specs.State.{State, opening}
 use Rattle.tree.specs.Names.{names}
-use Rattle.chain.specs.Settle.{active}
-use Rattle.chain.specs.Replay.{replay}
-use Rattle.chain.specs.Regtest.{ledger, regtest}
-use Rattle.chain.specs.StateInvariant.{IsSettled, AllKept}
+use Rattle.model.specs.Settle.{active}
+use Rattle.model.specs.Replay.{replay}
+use Rattle.model.specs.Regtest.{ledger, regtest}
+use Rattle.model.specs.StateInvariant.{IsSettled, AllKept}
 
 pub record CoreState : Type 0 where
   pub params : Params

@@ -12,8 +12,8 @@ use Rattle.tree.specs.Branches.{Blocks, branch, on, height, parent_at, block_at,
 use Rattle.tree.specs.Names.{names}
 use Rattle.tree.specs.State.{State}
 use Rattle.tree.specs.Tips.{last_shared}
-use Rattle.chain.specs.Rules.{Rules}
-use Rattle.chain.specs.Settle.{active}
+use Rattle.model.specs.Rules.{Rules}
+use Rattle.model.specs.Settle.{active}
 use Rattle.activate.specs.CoreState.{coins_after}
 
 -- ---- by places

@@ -1,11 +1,11 @@
 -- What a command does to a chainstate over lent coins.
 use Rattle.std.specs.Prelude.{◌≡◌}
-use Rattle.curve.specs.Triple.{Triples}
+use Rattle.signatures.specs.Triple.{Triples}
 use Rattle.coins.specs.Changes.{Changes, AreChanges}
-use Rattle.chain.specs.declared.command.Command.{Command}
-use Rattle.chain.specs.declared.reply.Reply.{Reply}
-use Rattle.chain.specs.Commands.{outcome}
-use Rattle.chain.specs.Regtest.{regtest}
+use Rattle.model.specs.declared.command.Command.{Command}
+use Rattle.model.specs.declared.reply.Reply.{Reply}
+use Rattle.model.specs.Commands.{outcome}
+use Rattle.model.specs.Regtest.{regtest}
 use Rattle.activate.specs.CoreState.{CoreState, KeepsUndo, coins_of}
 
 -- under these valid signatures a command leads from a to b, with this reply and this list of changes, which is the one such list

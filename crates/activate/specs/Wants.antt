@@ -5,19 +5,19 @@ use Rattle.std.specs.List.{flat_map}
 use Rattle.hash.specs.declared.id.Id.{Id}
 use Rattle.block.specs.declared.block.Block.{Block}
 use Rattle.block.specs.BlockOfBytes.{block_of_bytes}
-use Rattle.curve.specs.Known.{Known, Under}
-use Rattle.curve.specs.Triple.{Triple}
+use Rattle.signatures.specs.Known.{Known, Under}
+use Rattle.signatures.specs.Triple.{Triple}
 use Rattle.rules.specs.declared.params.Params.{Params}
 use Rattle.connect.specs.Scripts.{AreWantedByBlock}
 use Rattle.tree.specs.Branches.{Blocks, block_at, height, on, parent_at, place_of}
 use Rattle.tree.specs.Names.{names}
 use Rattle.tree.specs.State.{State, with_block, with_call, with_mark, without_marks}
-use Rattle.chain.specs.Faults.{IsNew}
-use Rattle.chain.specs.Regtest.{regtest, setting_on}
-use Rattle.chain.specs.Settle.{on_candidate}
-use Rattle.chain.specs.Step.{Request, Submit, Invalidate, Reconsider, Precious}
-use Rattle.chain.specs.declared.command.Command.{Command}
-use Rattle.chain.specs.declared.command.Command.TheVariants as command
+use Rattle.model.specs.Faults.{IsNew}
+use Rattle.model.specs.Regtest.{regtest, setting_on}
+use Rattle.model.specs.Settle.{on_candidate}
+use Rattle.model.specs.Step.{Request, Submit, Invalidate, Reconsider, Precious}
+use Rattle.model.specs.declared.command.Command.{Command}
+use Rattle.model.specs.declared.command.Command.TheVariants as command
 use Rattle.activate.specs.CoreState.{CoreState, branch_blocks, coins_after}
 
 -- the block at a place wants them over the coins of its parent's branch, on which it comes

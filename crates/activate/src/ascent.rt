@@ -2,14 +2,14 @@
 
 ghost use Rattle.std.specs.Prelude.{◌≡◌, ◌≤◌, ◌<◌, ◌++◌, ◌∷◌, [], length, IfOk, IfErr, OnOk, IfSome, MatchOption, None, Some};
 ghost use Rattle.tree.specs.Branches.{parent_at, height};
-ghost use Rattle.chain.specs.Valid.{fault};
-ghost use Rattle.chain.specs.Regtest.{regtest};
-ghost use Rattle.chain.specs.StateInvariant.{AllKept};
+ghost use Rattle.model.specs.Valid.{fault};
+ghost use Rattle.model.specs.Regtest.{regtest};
+ghost use Rattle.model.specs.StateInvariant.{AllKept};
 ghost use Rattle.activate.specs.Wants.{AreJoined, AreWantedAt};
 ghost use Rattle.activate.specs.Lookups.{undo_at};
 ghost use Rattle.activate.specs.inside.Ascents.{top_of, AreMore, IsApplied, IsTop, AreWantedAbove, LeadsUp};
 ghost use Rattle.activate.specs.inside.Paths.{IsStop};
-ghost use Rattle.curve.specs.Known.{Under};
+ghost use Rattle.signatures.specs.Known.{Under};
 
 use crate::medians::Medians;
 use crate::path::{ActiveBranch, BranchPath};

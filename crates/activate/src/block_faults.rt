@@ -2,16 +2,16 @@
 
 ghost use Rattle.std.specs.Prelude.{◌≡◌, ◌≤◌, suc, length, IfOk, Some};
 ghost use Rattle.std.specs.Result.{result_err};
-ghost use Rattle.curve.specs.Triple.{Triples};
+ghost use Rattle.signatures.specs.Triple.{Triples};
 ghost use Rattle.tree.specs.Branches.{branch, blocks_at, place_of};
 ghost use Rattle.tree.specs.Limits.{max_blocks};
 ghost use Rattle.tree.specs.Names.{names};
-ghost use Rattle.chain.specs.Context.{first_fault};
-ghost use Rattle.chain.specs.SubmissionFacts.{IsJudged};
-ghost use Rattle.chain.specs.Regtest.{regtest};
+ghost use Rattle.model.specs.Context.{first_fault};
+ghost use Rattle.model.specs.SubmissionFacts.{IsJudged};
+ghost use Rattle.model.specs.Regtest.{regtest};
 
 use block::Block;
-use chain::SubmittedBlock;
+use model::SubmittedBlock;
 use rules::{Params, context_fault};
 use tree::Tree;
 use txn::Reason;

@@ -1,12 +1,12 @@
 //! A try of a block: whether its branch connects.
 
 ghost use Rattle.std.specs.Prelude.{◌≡◌, ◌<◌, ◌≤◌, ◌∷◌, suc, length, IfOk, IfErr, None, OnOk, IfSome, MatchOption};
-ghost use Rattle.chain.specs.Regtest.{regtest};
-ghost use Rattle.chain.specs.SubmissionFacts.{IsJudged};
+ghost use Rattle.model.specs.Regtest.{regtest};
+ghost use Rattle.model.specs.SubmissionFacts.{IsJudged};
 ghost use Rattle.activate.specs.Wants.{AreJoined};
 ghost use Rattle.activate.specs.inside.Ascents.{IsApplied, IsTop};
 ghost use Rattle.activate.specs.inside.Paths.{AreWantedOnWay, IsActiveBranch, IsAttempt, IsPath, IsStop, IsValid, one_more};
-ghost use Rattle.curve.specs.Known.{Under};
+ghost use Rattle.signatures.specs.Known.{Under};
 ghost use Rattle.activate.specs.declared.path.Attempt.TheVariants.{Fails};
 
 use crate::ascent::{Ascent, Climb, Stop, append, connect_up, more};
@@ -15,9 +15,9 @@ use crate::fork_search::path_to;
 use crate::medians::Medians;
 use crate::new_undo::NewUndo;
 use crate::path::{ActiveBranch, Attempt, BranchPath, FailedTry, Reorganisation};
-use chain::SubmittedBlock;
 use coins::{Base, Cache};
 use connect::{BlockWithIds, Context, RunsScripts, apply_in_layer};
+use model::SubmittedBlock;
 use queue::Gate;
 use std::alloc::Global;
 use txn::Reason;

@@ -3,10 +3,10 @@
 ghost use Rattle.std.specs.Prelude.{◌≡◌, ◌≤◌, IfOk, is_some, map};
 ghost use Rattle.std.specs.Option.{option_map};
 ghost use Rattle.std.specs.FinMap as coin_map;
-ghost use Rattle.curve.specs.Triple.{Triples};
+ghost use Rattle.signatures.specs.Triple.{Triples};
 ghost use Rattle.rules.specs.Params.{regtest as regtest_params};
-ghost use Rattle.chain.specs.Regtest.{regtest};
-ghost use Rattle.chain.specs.Settle.{active, best, tips};
+ghost use Rattle.model.specs.Regtest.{regtest};
+ghost use Rattle.model.specs.Settle.{active, best, tips};
 ghost use Rattle.tree.specs.Branches.{height, place_of};
 ghost use Rattle.tree.specs.Names.{names};
 ghost use Rattle.tree.specs.Tips.{tip_of_id};

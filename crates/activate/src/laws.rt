@@ -2,15 +2,15 @@
 
 ghost use Rattle.std.specs.Prelude.{◌≡◌, pos, ◌≤ℤ◌};
 ghost use Rattle.block.specs.Reward.{subsidy_of};
-ghost use Rattle.curve.specs.Known.{Known, Under};
-ghost use Rattle.curve.specs.Triple.{Triples};
-ghost use Rattle.curve.specs.laws.Growth.{Grows};
+ghost use Rattle.signatures.specs.Known.{Known, Under};
+ghost use Rattle.signatures.specs.Triple.{Triples};
+ghost use Rattle.signatures.specs.laws.Growth.{Grows};
 ghost use Rattle.coins.specs.Coins.{total};
 ghost use Rattle.tree.specs.Branches.{height};
-ghost use Rattle.chain.specs.Settle.{active, best, tips};
-ghost use Rattle.chain.specs.Replay.{coins};
-ghost use Rattle.chain.specs.Total.{subsidies};
-ghost use Rattle.chain.specs.Regtest.{ledger, AreNotNegative, regtest};
+ghost use Rattle.model.specs.Settle.{active, best, tips};
+ghost use Rattle.model.specs.Replay.{coins};
+ghost use Rattle.model.specs.Total.{subsidies};
+ghost use Rattle.model.specs.Regtest.{ledger, AreNotNegative, regtest};
 ghost use Rattle.activate.specs.CoreState.{CoreState, WithCoins, Follows, IsChainstate, coins_of};
 
 /// The coins of a chainstate are worth at most the subsidies of heights 1 to the active one.

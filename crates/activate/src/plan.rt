@@ -2,8 +2,8 @@
 
 use crate::new_undo::NewUndo;
 use crate::path::{BranchPath, FailedTry};
-use chain::{Reply, SubmitReply};
 use coins::Changes;
+use model::{Reply, SubmitReply};
 use tree::{Marks, NewBlock};
 
 /// A command that was looked at whole, over a core that was only read. What is left to do takes room alone, and what

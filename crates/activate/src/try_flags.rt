@@ -6,8 +6,8 @@ ghost use Rattle.block.specs.declared.block.Block.{Block};
 ghost use Rattle.tree.specs.Branches.{has, places};
 ghost use Rattle.tree.specs.State.{union_where};
 ghost use Rattle.tree.specs.laws.Sets.{InOrder};
-ghost use Rattle.chain.specs.Rules.{Rules};
-ghost use Rattle.chain.specs.Try.{state_after_try};
+ghost use Rattle.model.specs.Rules.{Rules};
+ghost use Rattle.model.specs.Try.{state_after_try};
 ghost use Rattle.activate.specs.inside.Preparation.{IsFailedTry, IsValidPath};
 
 use crate::path::{BranchPath, FailedTry};

@@ -6,15 +6,15 @@ use crate::check::Check;
 use crate::clock::{Outcome, Timer};
 use crate::fault::Fault;
 use activate::Chainstate;
-use chain::{Bytes, Command};
 use connect::Env;
-use curve::Table;
+use model::{Bytes, Command};
 use queue::{Alone, Open};
-use scenarios::inputs;
-use scenarios::inputs::branch::Branch;
-use scenarios::inputs::lists::put_made;
+use signatures::Table;
 use std::alloc::Global;
 use std::rt::Clock;
+use workloads::inputs;
+use workloads::inputs::branch::Branch;
+use workloads::inputs::lists::put_made;
 
 /// When blocks are submitted, in seconds since 1970: after the times of all of them.
 pub const NOW: u64 = 0xffff_ffff;

@@ -6,13 +6,13 @@ use crate::fault::{Fault, read_again};
 use block::{BlkReader, Block, SliceSource};
 use hash::{Id, double_sha};
 use rules::block_alone;
-use scenarios::inputs;
-use scenarios::inputs::blocks::{blk_file, block_bytes};
-use scenarios::inputs::branch::bytes_of;
-use scenarios::inputs::payments::block_of;
 use std::alloc::Global;
 use std::rt::Clock;
 use txn::ids;
+use workloads::inputs;
+use workloads::inputs::blocks::{blk_file, block_bytes};
+use workloads::inputs::branch::bytes_of;
+use workloads::inputs::payments::block_of;
 
 /// The id of no transaction.
 const NONE: Id = Id([0; 32]);

@@ -4,11 +4,11 @@ use crate::check::Check;
 use crate::clock::{Outcome, Timer};
 use crate::fault::Fault;
 use coins::{Base, Cache, Coin, CoinMap};
-use scenarios::inputs::hoard::{Hoard, fill, hoarded, put_coin, put_next, put_spread};
-use scenarios::inputs::start::Start;
 use std::alloc::Global;
 use std::rt::Clock;
 use txn::OutPoint;
+use workloads::inputs::hoard::{Hoard, fill, hoarded, put_coin, put_next, put_spread};
+use workloads::inputs::start::Start;
 
 /// So many coins into a map.
 pub fn inserted<R: AllocGlobal + Clock>(rt: &R, size: usize) -> Result<Outcome, Fault> {

@@ -4,7 +4,7 @@ ghost use Rattle.std.specs.Prelude.{◌≡◌, ◌≤◌, All, IfOk, None};
 ghost use Rattle.txn.specs.First.{first_broken};
 ghost use Rattle.txn.specs.Identity.{ids_of};
 ghost use Rattle.rules.specs.Alone.{alone_rules};
-ghost use Rattle.curve.specs.Known.{all_known};
+ghost use Rattle.signatures.specs.Known.{all_known};
 ghost use Rattle.queue.specs.Jobs.{known_then};
 
 use crate::check::Check;
@@ -13,18 +13,18 @@ use crate::fault::{Fault, read_again};
 use block::Block;
 use coins::{Cache, CoinMap};
 use connect::{BlockWithIds, Context, Env, connect};
-use curve::Table;
 use hash::Id;
 use queue::{Crew, Open, Threaded, Verdicts};
 use rules::{Params, block_alone_with};
-use scenarios::inputs::blocks::block_over;
-use scenarios::inputs::hoard::fill;
-use scenarios::inputs::spends::{Spends, to_keys};
+use signatures::Table;
 use std::alloc::Global;
 use std::rt::Clock;
 use std::thread::Threads;
 use txn::ids;
 use undo::BlockUndo;
+use workloads::inputs::blocks::block_over;
+use workloads::inputs::hoard::fill;
+use workloads::inputs::spends::{Spends, to_keys};
 
 /// The height of the blocks.
 pub const HEIGHT: u32 = 101;

@@ -6,15 +6,15 @@ use crate::fault::Fault;
 use block::Block;
 use coins::CoinMap;
 use connect::early_jobs;
-use curve::Table;
 use queue::{Alone, EarlyJobs, Open, Source, check_early};
 use rules::Params;
-use scenarios::inputs::blocks::wide_block;
+use signatures::Table;
 use std::alloc::Global;
 use std::rt::Clock;
 use std::slice;
 use std::thread::Threads;
 use txn::ids;
+use workloads::inputs::blocks::wide_block;
 
 /// The scripts of a block that can be run before it's connected.
 fn jobs<'b>(alloc: Global, map: &CoinMap, block: &'b Block) -> Result<EarlyJobs<'b>, Fault> {

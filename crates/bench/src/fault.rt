@@ -1,9 +1,9 @@
 //! Why a run ends without its lines.
 
-use scenarios::inputs;
 use std::alloc::{AllocError, AllocFailed};
 use std::{fmt, io};
 use wire::Memory;
+use workloads::inputs;
 
 /// Why a run ends without its lines. Its `Display` is the line on the standard error.
 #[derive(Drop)]

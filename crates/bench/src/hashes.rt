@@ -5,9 +5,9 @@ use crate::clock::{Outcome, Timer};
 use crate::fault::Fault;
 use block::merkle;
 use hash::{Id, double_sha};
-use scenarios::inputs::random_bytes::{Filling, some_ids};
 use std::alloc::Global;
 use std::rt::Clock;
+use workloads::inputs::random_bytes::{Filling, some_ids};
 
 /// Double SHA-256 of 80 bytes, so often, each message with the digest before in it.
 pub fn double_sha_chain(clock: &impl Clock, size: usize) -> Result<Outcome, Fault> {

@@ -16,7 +16,7 @@ mod queues;
 mod read_work;
 mod scripts;
 mod seat_work;
-mod signatures;
+mod signed_inputs;
 mod words;
 mod workload;
 

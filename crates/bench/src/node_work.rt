@@ -9,12 +9,12 @@ use crate::plan::{Plan, Work};
 use crate::read_work::reads_beside;
 use crate::seat_work::{at_once, in_turn, submit, submit_each};
 use node::{Naming, Node, Open, Opening, Params, Seat, Table};
-use scenarios::inputs;
-use scenarios::inputs::branch::Branch;
 use std::marker::Brand;
 use std::rt::Clock;
 use std::sync::{Arc, Wait};
 use std::thread::Threads;
+use workloads::inputs;
+use workloads::inputs::branch::Branch;
 
 /// Opens a node, submits blocks, which aren't timed, and has its seats do their work, where that was made.
 pub fn at_node<R>(rt: &R, plan: Result<Plan, inputs::Fault>) -> Result<Outcome, Fault>

@@ -1,12 +1,12 @@
 //! The chains over which a node is timed, and what its seats do there.
 
 use crate::read_work::Look;
-use scenarios::inputs::Fault;
-use scenarios::inputs::branch::Branch;
-use scenarios::inputs::scripts::long_script_alone;
-use scenarios::inputs::start::{Start, branches as branches_of, paying};
 use std::alloc::Global;
 use txn::OutPoint;
+use workloads::inputs::Fault;
+use workloads::inputs::branch::Branch;
+use workloads::inputs::scripts::long_script_alone;
+use workloads::inputs::start::{Start, branches as branches_of, paying};
 
 /// So many payments stand in a block beside which is read, and in each of branches that are submitted at once.
 const PAYMENTS: usize = 1000;

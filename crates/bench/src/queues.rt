@@ -7,15 +7,15 @@ use crate::check::Check;
 use crate::clock::{Outcome, Timer};
 use crate::fault::Fault;
 use crate::scripts;
-use curve::Table;
 use interp::Job;
 use queue::{Crew, Open, Runs, Threaded, first_failure};
-use scenarios::inputs;
-use scenarios::inputs::spends::Spends;
+use signatures::Table;
 use std::alloc::Global;
 use std::rt::Clock;
 use std::thread::Threads;
 use wire::Memory;
+use workloads::inputs;
+use workloads::inputs::spends::Spends;
 
 /// Whether the queue takes these jobs: each is of an input that is there.
 fn are_ready(jobs: &[Job]) -> bool

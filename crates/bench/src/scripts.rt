@@ -2,8 +2,8 @@
 
 use crate::check::Check;
 use crate::fault::Fault;
-use curve::Table;
 use interp::{Job, verify};
+use signatures::Table;
 use std::alloc::Global;
 
 /// How many jobs are accepted, where all are run so often.

@@ -7,15 +7,15 @@ use crate::node_work::at_node;
 use crate::plan::Plan;
 use crate::queues::{Runner, checked};
 use crate::read_work::Look;
-use crate::{codec, coin_work, connections, early_work, hashes, plan, signatures};
-use scenarios::inputs;
-use scenarios::inputs::branch::Branch;
-use scenarios::inputs::scripts;
-use scenarios::inputs::spends::{to_keys, to_two_of_three};
+use crate::{codec, coin_work, connections, early_work, hashes, plan, signed_inputs};
 use std::alloc::Global;
 use std::rt::Clock;
 use std::sync::Wait;
 use std::thread::Threads;
+use workloads::inputs;
+use workloads::inputs::branch::Branch;
+use workloads::inputs::scripts;
+use workloads::inputs::spends::{to_keys, to_two_of_three};
 
 /// What is timed.
 #[derive(Clone, Copy)]
@@ -170,8 +170,8 @@ impl Workload {
             Workload::Hashes => checked(rt, scripts::hashes(alloc), Runner::Alone, size),
             Workload::LongCode => checked(rt, scripts::long_code(alloc), Runner::Alone, size),
             Workload::Conditions => checked(rt, scripts::conditions(alloc), Runner::Alone, size),
-            Workload::Digests => signatures::digests(rt, size),
-            Workload::EachInput => signatures::each_input(rt, size),
+            Workload::Digests => signed_inputs::digests(rt, size),
+            Workload::EachInput => signed_inputs::each_input(rt, size),
             Workload::Queue(workers) => {
                 checked(rt, to_keys(alloc, size), Runner::Queue(workers), 1)
             },

@@ -9,8 +9,8 @@ use Rattle.txn.specs.declared.reason.Reason.TheVariants.{ScriptRefused}
 use Rattle.txn.specs.declared.tx.Tx.{Tx}
 use Rattle.coins.specs.declared.coin.Coin.{Coin}
 use Rattle.interp.specs.declared.flags.Flags.{Flags}
-use Rattle.curve.specs.Known.{Known}
-use Rattle.curve.specs.Triple.{Triple, Triples}
+use Rattle.signatures.specs.Known.{Known}
+use Rattle.signatures.specs.Triple.{Triple, Triples}
 use Rattle.interp.specs.declared.job.Job.{Job}
 use Rattle.interp.specs.Question.{question, question_of}
 use Rattle.interp.specs.Answer.{Answer, Says, Wants}

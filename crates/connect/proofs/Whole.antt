@@ -11,7 +11,7 @@ use Rattle.txn.specs.declared.tx.Tx.{Tx}
 use Rattle.txn.specs.declared.reason.Reason.{Reason}
 use Rattle.txn.specs.First.{first_broken}
 use Rattle.block.specs.declared.block.Block.{Block}
-use Rattle.curve.specs.Triple.{Triples}
+use Rattle.signatures.specs.Triple.{Triples}
 use Rattle.rules.specs.Alone.{begins_with_coinbase}
 use Rattle.txn.specs.Check.{is_coinbase, prevs}
 use Rattle.interp.specs.declared.flags.Flags.{Flags}

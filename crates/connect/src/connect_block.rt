@@ -15,7 +15,7 @@ ghost use Rattle.connect.specs.Faults.{overwrites, fees, turn_rules, connect_rul
 ghost use Rattle.connect.specs.Scripts.{IsConnectFault, AreWantedByBlock};
 ghost use Rattle.connect.specs.ConnectedBlock.{IsConnected};
 ghost use Rattle.connect.specs.inside.Turns.{IsReason, IsLawful, PassInTurn, PassTogether};
-ghost use Rattle.curve.specs.Known.{Under};
+ghost use Rattle.signatures.specs.Known.{Under};
 ghost use Rattle.connect.specs.declared.lookups.Lookup.TheVariants.{Above};
 
 use crate::amounts::paid;

@@ -6,7 +6,7 @@ ghost use Rattle.txn.specs.declared.reason.Reason.{Reason};
 ghost use Rattle.txn.specs.First.{first_broken};
 ghost use Rattle.block.specs.declared.block.Block.{Block};
 ghost use Rattle.block.specs.Reward.{subsidy_of};
-ghost use Rattle.curve.specs.Triple.{Triples};
+ghost use Rattle.signatures.specs.Triple.{Triples};
 ghost use Rattle.coins.specs.Coins.{Coins, total};
 ghost use Rattle.rules.specs.Alone.{alone_rules};
 ghost use Rattle.connect.specs.BlockContext.{Setting};

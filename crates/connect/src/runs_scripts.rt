@@ -1,8 +1,8 @@
 //! Who runs the scripts of a block, and by what is known of signatures.
 
 ghost use Rattle.std.specs.Prelude.{◌≡◌, All, List, None, Option, length, IfSome};
-ghost use Rattle.curve.specs.Known.{Agrees, Known};
-ghost use Rattle.curve.specs.Triple.{Triple, Triples};
+ghost use Rattle.signatures.specs.Known.{Agrees, Known};
+ghost use Rattle.signatures.specs.Triple.{Triple, Triples};
 ghost use Rattle.queue.specs.Jobs.{AreNumbered, HasInput, verdict_at};
 ghost use Rattle.queue.specs.FirstAnswer.{AreOfBoth, Told};
 

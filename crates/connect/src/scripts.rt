@@ -2,7 +2,7 @@
 
 ghost use Rattle.std.specs.Prelude.{◌≡◌, ◌+◌, ◌<◌, ◌≤◌, ◌^◌, ◌++◌, All, IfErr, IfOk, IfSome, OnOk, length, sum_by};
 ghost use Rattle.std.specs.List.{AllZip};
-ghost use Rattle.curve.specs.Known.{Under};
+ghost use Rattle.signatures.specs.Known.{Under};
 ghost use Rattle.queue.specs.Jobs.{HasInput};
 ghost use Rattle.sighash.specs.Midstates.{AreOf};
 ghost use Rattle.connect.specs.Scripts.{flags_of, input_checks, IsFirstRefused, AreWantedAmong};

@@ -1,8 +1,8 @@
 //! Blocks that are submitted next, decoded and hashed by several threads at once.
 
 use block::{BlkFault, Bytes};
-use chain::{Command, Submission};
 use journal::{Records, read_out};
+use model::{Command, Submission};
 use std::alloc::Global;
 use std::thread::{Threads, for_each_mut};
 use wire::Memory;

@@ -1,9 +1,9 @@
 //! Why a run ends without its whole output.
 
 use arrayvec::ArrayString;
-use chain::Reply;
 use durable::AppendFault;
 use journal::JournalFault;
+use model::Reply;
 use scenario::{ScenarioFault, Why};
 use std::alloc::{AllocError, AllocFailed};
 use std::fmt;
@@ -301,11 +301,11 @@ impl From<ScenarioFault> for Fault<'_> {
     }
 }
 
-impl From<curve::TableFault> for Fault<'_> {
-    fn from(fault: curve::TableFault) -> Self {
+impl From<signatures::TableFault> for Fault<'_> {
+    fn from(fault: signatures::TableFault) -> Self {
         match fault {
-            curve::TableFault::BadLine(number) => Fault::TableLine(number),
-            curve::TableFault::Memory => Fault::Memory,
+            signatures::TableFault::BadLine(number) => Fault::TableLine(number),
+            signatures::TableFault::Memory => Fault::Memory,
         }
     }
 }

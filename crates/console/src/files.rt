@@ -2,7 +2,7 @@
 
 use crate::fault::Fault;
 use crate::options::STANDARD;
-use curve::Table;
+use signatures::Table;
 use std::alloc::Global;
 use std::io::{Error, ErrorKind, Read, Write};
 use std::rt::Files;

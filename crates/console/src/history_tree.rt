@@ -2,13 +2,13 @@
 
 use crate::fault::Fault;
 use block::GENESIS_ID;
-use chain::{Bytes, Command, Reply, SubmitReply};
-use curve::Table;
 use hash::Id;
 use journal::replayed_state;
+use model::{Bytes, Command, Reply, SubmitReply};
 use picture::{BlockTree, Status, TreeBlock};
 use rules::Params;
 use scenario::{Definitions, Label};
+use signatures::Table;
 use std::alloc::{AllocError, Global};
 use std::collections::BTreeMap;
 

@@ -1,9 +1,9 @@
 //! The history of a run.
 
 use crate::fault::Fault;
-use chain::{Command, Entry};
 use hash::Id;
 use journal::{Asked, Step, block_of};
+use model::{Command, Entry};
 use scenario::{Definitions, Label};
 use std::alloc::{AllocError, Global};
 

@@ -6,9 +6,9 @@
 
 use crate::fault::Fault;
 use crate::report::Report;
-use curve::Table;
 use journal::{RecordFault, blk_file};
 use rules::Params;
+use signatures::Table;
 use std::alloc::{AllocError, Global};
 use std::fs::{File, OpenOptions, TryLockError};
 use std::io::{Error, ErrorKind, Write};

@@ -3,8 +3,8 @@
 ghost use Rattle.std.specs.Prelude.{◌≤◌, length};
 
 use crate::fault::Fault;
-use curve::Table;
 use scenario::{Definitions, Line, lines};
+use signatures::Table;
 use std::alloc::Global;
 
 /// The definitions of a text, and the lines from its first client on.

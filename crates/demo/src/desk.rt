@@ -2,12 +2,12 @@
 
 use crate::request::Request;
 use activate::Chainstate;
-use chain::{Bytes, Command, PreparedCommand, Reply, SubmitReply};
 use coins::{Base, Coin};
 use connect::Env;
-use curve::Table;
 use hash::Id;
+use model::{Bytes, Command, PreparedCommand, Reply, SubmitReply};
 use queue::{Alone, Open};
+use signatures::Table;
 use std::alloc::Global;
 use std::marker::Model;
 use wire::Memory;

@@ -5,9 +5,9 @@ mod desk;
 mod request;
 
 use anyhow::Context;
-use curve::Table;
 use desk::Desk;
 use request::Request;
+use signatures::Table;
 
 fn main(rt: HostRuntime) -> anyhow::Result<()> {
     let table = Table::new(rt.alloc());

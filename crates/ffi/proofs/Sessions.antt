@@ -1,15 +1,15 @@
 -- What a session knows, and that a verdict more leaves it a session.
 use Rattle.std.proofs.Common.{◌≡◌, true, false, List, Option, Some, None, Result, Ok, Err, OnOk, OnErr, IfOk, inr, refl, sym, subst}
 use Rattle.std.specs.Prelude.{is_some, Bool}
-use Rattle.curve.specs.Known.{Under, Verdicts, verdict_in, with_verdict}
-use Rattle.curve.specs.Triple.{Triple, Triples}
-use Rattle.curve.specs.laws.Growth.{agrees-with-less, learning-grows}
-use Rattle.curve.specs.laws.Agreement.{found_agrees}
-use Rattle.chain.specs.declared.command.Command.{Command}
+use Rattle.signatures.specs.Known.{Under, Verdicts, verdict_in, with_verdict}
+use Rattle.signatures.specs.Triple.{Triple, Triples}
+use Rattle.signatures.specs.laws.Growth.{agrees-with-less, learning-grows}
+use Rattle.signatures.specs.laws.Agreement.{found_agrees}
+use Rattle.model.specs.declared.command.Command.{Command}
 use Rattle.activate.specs.CoreState.{WithCoins, IsChainstate}
 use Rattle.ffi.specs.declared.answers.Answer.{Answer}
-use Rattle.ffi.specs.declared.signatures.Signatures.{Signatures}
-use Rattle.ffi.specs.declared.signatures.Signatures.TheVariants.{Listed, Found}
+use Rattle.ffi.specs.declared.signature_sources.Signatures.{Signatures}
+use Rattle.ffi.specs.declared.signature_sources.Signatures.TheVariants.{Listed, Found}
 use Rattle.ffi.specs.Answers.{IsAnswered, IsJudged}
 use Rattle.ffi.specs.SessionState.{SessionState, known_of}
 use Rattle.ffi.specs.Signatures.{valid_in, invalid_in, is_by_need}

@@ -8,10 +8,10 @@ use Rattle.std.proofs.lemmas.List.Splits.{length-slice_split, slice_split-cons_n
 use Rattle.std.proofs.lemmas.List.Sums.{AllPass-from_list_all}
 use Rattle.hex.specs.Hex.{IsBytes, encode_lower, encode_with, lower_digits}
 use Rattle.hex.proofs.HexLemmas.{decode_of-encode_lower, length-encode_with}
-use Rattle.curve.specs.Lines.{IsDigest, IsHex, IsTableOf, Spells, StandsFor, is_digit, lines, words}
-use Rattle.curve.specs.Triple.{Triples, triple_of}
+use Rattle.signatures.specs.Lines.{IsDigest, IsHex, IsTableOf, Spells, StandsFor, is_digit, lines, words}
+use Rattle.signatures.specs.Triple.{Triples, triple_of}
 use Rattle.std.specs.FinSet as set
-use Rattle.curve.proofs.Tables.{table_adds}
+use Rattle.signatures.proofs.Tables.{table_adds}
 use Rattle.ffi.specs.Tables.{line_of, word_of}
 
 -- ---- the digits of a word

@@ -7,23 +7,23 @@ use Rattle.std.specs.FinMap as coin_map
 use Rattle.std.specs.FinSet as set
 use Rattle.hash.specs.declared.id.Id.{Id}
 use Rattle.txn.specs.declared.outpoint.OutPoint.{OutPoint}
-use Rattle.curve.specs.Known.{Under}
-use Rattle.curve.specs.Triple.{Triple, Triples}
-use Rattle.curve.specs.Lines.{IsFirstBad, IsTableOf}
+use Rattle.signatures.specs.Known.{Under}
+use Rattle.signatures.specs.Triple.{Triple, Triples}
+use Rattle.signatures.specs.Lines.{IsFirstBad, IsTableOf}
 use Rattle.coins.specs.declared.coin.Coin.{Coin}
 use Rattle.coins.specs.Next.{IsNext}
 use Rattle.activate.specs.CoreState.{IsBlockOf}
 use Rattle.rules.specs.declared.params.Params.{Params}
 use Rattle.tree.specs.declared.tip.Tip.{Tip}
-use Rattle.chain.specs.declared.command.Command.{Command}
-use Rattle.chain.specs.declared.reply.Reply.{Reply}
+use Rattle.model.specs.declared.command.Command.{Command}
+use Rattle.model.specs.declared.reply.Reply.{Reply}
 use Rattle.tree.specs.Branches.{height as height_of, place_of}
 use Rattle.tree.specs.Names.{names}
 use Rattle.tree.specs.Tips.{tip_of_id}
-use Rattle.chain.specs.Commands.{outcome}
-use Rattle.chain.specs.Regtest.{ledger}
-use Rattle.chain.specs.Replay.{coins}
-use Rattle.chain.specs.Settle.{active, best, tips}
+use Rattle.model.specs.Commands.{outcome}
+use Rattle.model.specs.Regtest.{ledger}
+use Rattle.model.specs.Replay.{coins}
+use Rattle.model.specs.Settle.{active, best, tips}
 use Rattle.ffi.specs.declared.answers.Answer.{Answer}
 use Rattle.ffi.specs.declared.answers.Heights.{Heights}
 use Rattle.ffi.specs.declared.answers.Name.{Name}

@@ -5,12 +5,12 @@ use Rattle.tree.specs.declared.tip.Status.TheVariants.{Active, Invalid, ValidFor
 use Rattle.txn.specs.declared.reason.Reason.{Reason}
 use Rattle.txn.specs.declared.reason.Reason.TheVariants.{ScriptRefused}
 use Rattle.txn.specs.Reason.{number_of}
-use Rattle.chain.specs.declared.reply.Reply.{Reply}
-use Rattle.chain.specs.declared.reply.Reply.TheVariants as reply
-use Rattle.chain.specs.declared.reply.SubmitReply.{SubmitReply}
-use Rattle.chain.specs.declared.reply.SubmitReply.TheVariants.{Accepted, Inconclusive, Duplicate, DuplicateInvalid, DuplicateInconclusive, Rejected, DecodeFailed, TreeFull}
-use Rattle.chain.specs.declared.reply.MarkReply.{MarkReply}
-use Rattle.chain.specs.declared.reply.MarkReply.TheVariants.{Done, NotFound, Genesis}
+use Rattle.model.specs.declared.reply.Reply.{Reply}
+use Rattle.model.specs.declared.reply.Reply.TheVariants as reply
+use Rattle.model.specs.declared.reply.SubmitReply.{SubmitReply}
+use Rattle.model.specs.declared.reply.SubmitReply.TheVariants.{Accepted, Inconclusive, Duplicate, DuplicateInvalid, DuplicateInconclusive, Rejected, DecodeFailed, TreeFull}
+use Rattle.model.specs.declared.reply.MarkReply.{MarkReply}
+use Rattle.model.specs.declared.reply.MarkReply.TheVariants.{Done, NotFound, Genesis}
 
 -- of a submission: 1 to 8
 abbrev pub submit_number : SubmitReply → ℕ

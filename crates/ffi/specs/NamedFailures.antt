@@ -2,9 +2,9 @@
 use Rattle.std.specs.Prelude.{◌≡◌, ◌≢◌, ◌⊎◌, ℕ, ◌^◌, ◌/◌, ◌%◌, ◌==◌, ◌<◌, Bool, List, length, map, reverse, sum_by, Result, Ok, Err}
 use Rattle.std.specs.List.{flat_map}
 use Rattle.txn.specs.declared.tx.Tx.{Tx}
-use Rattle.curve.specs.Known.{Verdicts, AreApart, verdict_in}
-use Rattle.curve.specs.Lines.{IsFirstBad}
-use Rattle.curve.specs.Triple.{Triple}
+use Rattle.signatures.specs.Known.{Verdicts, AreApart, verdict_in}
+use Rattle.signatures.specs.Lines.{IsFirstBad}
+use Rattle.signatures.specs.Triple.{Triple}
 use Rattle.interp.specs.Answer.{Answer, Says, Wants}
 use Rattle.interp.specs.Question.{question}
 use Rattle.interp.specs.Stack.{Stack}

@@ -2,8 +2,8 @@
 use Rattle.std.specs.Prelude.{◌≡◌, ◌≢◌, ℕ, ◌+◌, ◌<◌, ◌⊎◌, List, [], ◌∷◌, length, map, Option, None, Some, Ok, Err}
 use Rattle.std.specs.List.{flat_map}
 use Rattle.std.specs.Option.{option_map}
-use Rattle.curve.specs.Known.{Known, verdict_in}
-use Rattle.curve.specs.Lines.{lines}
+use Rattle.signatures.specs.Known.{Known, verdict_in}
+use Rattle.signatures.specs.Lines.{lines}
 use Rattle.interp.specs.Answer.{Answer, Says, Wants}
 use Rattle.interp.specs.Question.{question}
 use Rattle.interp.specs.computed.NamedFailures.{Named, verify_script}

@@ -7,7 +7,7 @@ use Rattle.script.specs.Signatures.{sigops}
 use Rattle.script.specs.declared.signatures.Counting.TheVariants.{Plain, Accurate}
 use Rattle.txn.specs.declared.tx.Tx.{Tx}
 use Rattle.sighash.specs.Digest.{digest_of}
-use Rattle.curve.specs.Triple.{Triples}
+use Rattle.signatures.specs.Triple.{Triples}
 use Rattle.interp.specs.Rules.{Accepts}
 use Rattle.interp.specs.declared.flags.Flags.{Flags}
 use Rattle.ffi.specs.declared.shown.ShownFlags.{ShownFlags}

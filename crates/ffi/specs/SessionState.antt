@@ -4,13 +4,13 @@ use Rattle.std.specs.FinSet as set
 use Rattle.std.specs.FinMap as coin_map
 use Rattle.hash.specs.declared.id.Id.{Id}
 use Rattle.block.specs.declared.block.Block.{Block}
-use Rattle.curve.specs.Known.{Known, Verdicts, verdict_in, with_verdict}
-use Rattle.curve.specs.Triple.{Triple, Triples}
+use Rattle.signatures.specs.Known.{Known, Verdicts, verdict_in, with_verdict}
+use Rattle.signatures.specs.Triple.{Triple, Triples}
 use Rattle.rules.specs.declared.params.Params.{Params}
 use Rattle.tree.specs.State.{State}
-use Rattle.chain.specs.Rules.{Rules}
-use Rattle.chain.specs.Regtest.{regtest}
-use Rattle.chain.specs.declared.command.Command.{Command}
+use Rattle.model.specs.Rules.{Rules}
+use Rattle.model.specs.Regtest.{regtest}
+use Rattle.model.specs.declared.command.Command.{Command}
 use Rattle.activate.specs.CoreState.{WithCoins, opened_core}
 use Rattle.activate.specs.Wants.{AreWantedByStep}
 

@@ -1,9 +1,9 @@
 -- What a session has of signatures, as it is kept.
 use Rattle.std.specs.Prelude.{Bool, true, false}
 use Rattle.std.specs.FinSet as set
-use Rattle.curve.specs.Triple.{Triples}
-use Rattle.ffi.specs.declared.signatures.Signatures.{Signatures}
-use Rattle.ffi.specs.declared.signatures.Signatures.TheVariants.{Listed, Found}
+use Rattle.signatures.specs.Triple.{Triples}
+use Rattle.ffi.specs.declared.signature_sources.Signatures.{Signatures}
+use Rattle.ffi.specs.declared.signature_sources.Signatures.TheVariants.{Listed, Found}
 
 -- those that are known to be valid, and others that are known not to be
 abbrev pub valid_in : Signatures → Triples

@@ -1,8 +1,8 @@
 -- What is reported about a table of valid signatures, which is passed as text.
 use Rattle.std.specs.Prelude.{◌≡◌, ℕ, ◌⊎◌, ◌++◌, List, [], ◌∷◌, codes}
 use Rattle.hex.specs.Hex.{encode_lower}
-use Rattle.curve.specs.Lines.{IsFirstBad, IsTableOf}
-use Rattle.curve.specs.Triple.{Triples}
+use Rattle.signatures.specs.Lines.{IsFirstBad, IsTableOf}
+use Rattle.signatures.specs.Triple.{Triples}
 
 -- What its triples say is reported; or a line can't be read, and only that is reported; or memory ran out, and nothing is.
 abbrev pub IsByTable : List (List ℕ) → (Triples → Type 0) → ℕ → ℕ → Type 0 → ℕ → Type 0

@@ -8,8 +8,8 @@ use Rattle.txn.specs.Check.{tx_rules}
 use Rattle.txn.specs.First.{first_broken}
 use Rattle.txn.specs.Reason.{number_of}
 use Rattle.block.specs.declared.block.Block.{Block}
-use Rattle.curve.specs.Known.{Under}
-use Rattle.curve.specs.Triple.{Triple}
+use Rattle.signatures.specs.Known.{Under}
+use Rattle.signatures.specs.Triple.{Triple}
 use Rattle.coins.specs.declared.coin.Coin.{Coin}
 use Rattle.coins.specs.Coins.{Coins}
 use Rattle.coins.specs.Next.{IsNext}

@@ -3,7 +3,7 @@
 ghost use Rattle.std.specs.Prelude.{◌≡◌};
 ghost use Rattle.ffi.specs.Codes.{input_number, reason_number, reply_number, status_number, submit_number, transaction_number};
 
-use chain::{MarkReply, Reply, SubmitReply};
+use model::{MarkReply, Reply, SubmitReply};
 use tree::{Status, Tip};
 use txn::Reason;
 

@@ -2,8 +2,8 @@
 
 ghost use Rattle.std.specs.Prelude.{◌≡◌, ◌≢◌, ◌⊎◌, ◌+◌, ◌<◌, ◌++◌, length, map, Ok, IfOk, IfSome, IfNone};
 ghost use Rattle.std.specs.List.{flat_map};
-ghost use Rattle.curve.specs.Known.{verdict_in};
-ghost use Rattle.curve.specs.Lines.{lines};
+ghost use Rattle.signatures.specs.Known.{verdict_in};
+ghost use Rattle.signatures.specs.Lines.{lines};
 ghost use Rattle.interp.specs.Answer.{Tells};
 ghost use Rattle.interp.specs.Question.{question};
 ghost use Rattle.interp.specs.computed.NamedFailures.{eval_script};
@@ -18,8 +18,8 @@ use crate::named_failures::{flags_in, number_of};
 use crate::room::put;
 use crate::shown::ShownStack;
 use crate::transactions::front;
-use curve::FoundTables;
 use interp::{Element, Job, Pile, ScriptError, Unverified, eval_script};
+use signatures::FoundTables;
 use std::alloc::Global;
 use txn::Tx;
 use wire::{Cursor, Memory};

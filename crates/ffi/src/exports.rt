@@ -2,11 +2,11 @@
 
 ghost use Rattle.std.specs.Prelude.{◌≡◌, ◌==◌, not, None, Some, slice_get};
 ghost use Rattle.std.specs.FinMap as coin_map;
-ghost use Rattle.curve.specs.Lines.{lines};
-ghost use Rattle.curve.specs.Triple.{triple_of};
-ghost use Rattle.chain.specs.declared.command.Command.TheVariants as command;
-ghost use Rattle.chain.specs.Regtest.{ledger};
-ghost use Rattle.chain.specs.Replay.{coins};
+ghost use Rattle.signatures.specs.Lines.{lines};
+ghost use Rattle.signatures.specs.Triple.{triple_of};
+ghost use Rattle.model.specs.declared.command.Command.TheVariants as command;
+ghost use Rattle.model.specs.Regtest.{ledger};
+ghost use Rattle.model.specs.Replay.{coins};
 ghost use Rattle.ffi.specs.Answers.{IsAnswered, IsBestShown, IsCoinShown, IsCoinTold, IsCopied, IsJudged, IsLearntIn, IsOpened, IsOpenedByNeed, IsTipTold, IsWantShown, IsWantTold, close_number, id_of, outpoint_of, params_of};
 ghost use Rattle.ffi.specs.Known.{asked_of};
 ghost use Rattle.ffi.specs.SessionState.{rules_of, tree_of};
@@ -20,10 +20,10 @@ use crate::lists::{outpoint, tell_coin};
 use crate::session::Session;
 use crate::slot::{Slot, put, take};
 use block::Bytes;
-use chain::Command;
-use curve::TableFault;
 use hash::Id;
+use model::Command;
 use rules::Params;
+use signatures::TableFault;
 use std::alloc::Global;
 
 /// Opens a session on genesis alone. Where a line of the table can't be read, `line` is its number, from 1.

@@ -1,8 +1,8 @@
 //! An input judged by what is known of signatures, as far as that goes.
 
 ghost use Rattle.std.specs.Prelude.{◌≡◌, ◌↔◌, ◌⊎◌, ◌<◌, length, IsTrue, IfOk, IfErr, OnOk};
-ghost use Rattle.curve.specs.Known.{Under, verdict_in};
-ghost use Rattle.curve.specs.Lines.{lines};
+ghost use Rattle.signatures.specs.Known.{Under, verdict_in};
+ghost use Rattle.signatures.specs.Lines.{lines};
 ghost use Rattle.interp.specs.Answer.{Stops};
 ghost use Rattle.interp.specs.Question.{question};
 ghost use Rattle.interp.specs.Rules.{Accepts};
@@ -19,8 +19,8 @@ use crate::scripts::flags_of;
 use crate::shown::{ShownFlags, bit};
 use crate::tables::{spelled_line, table_of};
 use crate::transactions::front;
-use curve::{FoundTables, KeptTriple};
 use interp::{Job, Unverified, verify_with};
+use signatures::{FoundTables, KeptTriple};
 use std::alloc::Global;
 use txn::Tx;
 use wire::Cursor;

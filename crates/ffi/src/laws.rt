@@ -3,8 +3,8 @@
 ghost use Rattle.std.specs.Prelude.{◌≡◌, ◌++◌, ℕ, List, length};
 ghost use Rattle.std.specs.FinSet as set;
 ghost use Rattle.hex.specs.Hex.{IsBytes};
-ghost use Rattle.curve.specs.Lines.{IsTableOf, lines};
-ghost use Rattle.curve.specs.Triple.{Triples, triple_of};
+ghost use Rattle.signatures.specs.Lines.{IsTableOf, lines};
+ghost use Rattle.signatures.specs.Triple.{Triples, triple_of};
 ghost use Rattle.ffi.specs.Tables.{line_of};
 
 /// The line that `ffi_table_line` gives, put behind any table's text, adds its triple to the table, and no other.

@@ -28,7 +28,7 @@ mod room;
 mod scripts;
 mod session;
 mod shown;
-mod signatures;
+mod signature_sources;
 mod slot;
 mod tables;
 mod transactions;

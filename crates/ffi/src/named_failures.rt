@@ -1,7 +1,7 @@
 //! Scripts and inputs with the names of their failures, by what is known of signatures.
 
 ghost use Rattle.std.specs.Prelude.{◌≡◌, ◌<◌, length};
-ghost use Rattle.curve.specs.Lines.{lines};
+ghost use Rattle.signatures.specs.Lines.{lines};
 ghost use Rattle.interp.specs.Answer.{Tells};
 ghost use Rattle.interp.specs.Question.{question};
 ghost use Rattle.interp.specs.computed.NamedFailures.{Named, verify_script};
@@ -13,8 +13,8 @@ ghost use Rattle.ffi.specs.Refusals.{IsTold};
 use crate::answers::{DONE, MEMORY, NO_INPUT};
 use crate::known::{known_of, tell_line};
 use crate::transactions::front;
-use curve::KnowsSignatures;
 use interp::{Flags, Job, ScriptError, Unverified, verify_script};
+use signatures::KnowsSignatures;
 use std::alloc::Global;
 use txn::Tx;
 use wire::Cursor;

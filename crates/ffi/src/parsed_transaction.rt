@@ -1,8 +1,8 @@
 //! A transaction that is read once and asked many times: C keeps it in a slot.
 
 ghost use Rattle.std.specs.Prelude.{◌≡◌, ℕ, ◌+◌, ◌<◌, length, IfErr, IfOk, Ok, None, Option};
-ghost use Rattle.curve.specs.Known.{verdict_in};
-ghost use Rattle.curve.specs.Lines.{lines};
+ghost use Rattle.signatures.specs.Known.{verdict_in};
+ghost use Rattle.signatures.specs.Lines.{lines};
 ghost use Rattle.interp.specs.Answer.{Answer, Tells};
 ghost use Rattle.interp.specs.Question.{question};
 ghost use Rattle.interp.specs.computed.NamedFailures.{verify_script};
@@ -21,9 +21,9 @@ use crate::named_failures::{flags_in, number_of, tell_failure};
 use crate::shown::{AllQuestion, AllTold, InputQuestion, InputTold};
 use crate::transactions::front;
 use crate::tx_slot::{TxSlot, put_tx, take_tx};
-use curve::{FoundTables, KnowsSignatures};
 use interp::{Element, Job, ScriptError, Unverified, verify_script};
 use sighash::{Midstates, PrecomputedTx, SpentScripts};
+use signatures::{FoundTables, KnowsSignatures};
 use std::alloc::Global;
 use wire::Cursor;
 

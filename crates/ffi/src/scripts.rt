@@ -1,8 +1,8 @@
 //! What is asked of scripts, and of an input that spends one.
 
 ghost use Rattle.std.specs.Prelude.{◌≡◌, ◌↔◌, ◌<◌, ◌∷◌, [], min, length, IsTrue, IfOk};
-ghost use Rattle.curve.specs.Lines.{lines};
-ghost use Rattle.curve.specs.computed.Shape.{is_strict};
+ghost use Rattle.signatures.specs.Lines.{lines};
+ghost use Rattle.signatures.specs.computed.Shape.{is_strict};
 ghost use Rattle.interp.specs.Rules.{Accepts};
 ghost use Rattle.script.specs.Num.{operand, shortest_bytes};
 ghost use Rattle.script.specs.Ops.{ops};
@@ -19,12 +19,12 @@ use crate::room::fill;
 use crate::shown::{ShownFlags, ShownOp, ShownScript, bit};
 use crate::tables::table_of;
 use crate::transactions::{counted, front};
-use curve::{Table, der_shape};
 use interp::{Flags, Job, verify};
 use script::{
     Counting, Num, Ops, is_p2sh, number, p2sh_sigops, push_only, pushed, sigops, unspendable,
 };
 use sighash::digest;
+use signatures::{Table, der_shape};
 use std::alloc::Global;
 use txn::Tx;
 use wire::{Cursor, Memory};

@@ -2,8 +2,8 @@
 
 ghost use Rattle.std.specs.Prelude.{◌≡◌, ◌++◌, ⊤, IfErr, IfOk, OnOk};
 ghost use Rattle.std.specs.FinSet as set;
-ghost use Rattle.curve.specs.Lines.{IsTableOf, lines};
-ghost use Rattle.curve.specs.Triple.{triple_of};
+ghost use Rattle.signatures.specs.Lines.{IsTableOf, lines};
+ghost use Rattle.signatures.specs.Triple.{triple_of};
 ghost use Rattle.hex.specs.Hex.{encode_lower};
 ghost use Rattle.ffi.specs.Refusals.{bit};
 ghost use Rattle.ffi.specs.Room.{IsCounted};
@@ -13,7 +13,7 @@ ghost use Rattle.ffi.specs.inside.Parts.{IsNoTable};
 use crate::answers::{BAD_TABLE, DONE, MEMORY, Name};
 use crate::room::fill;
 use crate::shown::bit;
-use curve::{Table, TableFault};
+use signatures::{Table, TableFault};
 use std::alloc::Global;
 use wire::Memory;
 

@@ -7,7 +7,7 @@ ghost use Rattle.txn.specs.computed.Reader.{tx_at};
 ghost use Rattle.block.specs.BlockOfBytes.{block_of_bytes};
 ghost use Rattle.block.specs.Whole.{Faulty};
 ghost use Rattle.block.specs.declared.fault.ReadFault.{ReadFault};
-ghost use Rattle.curve.specs.Triple.{triple_of};
+ghost use Rattle.signatures.specs.Triple.{triple_of};
 ghost use Rattle.ffi.specs.Answers.{IsCoinShown, IsWantShown, above_of, close_number, outpoint_of};
 ghost use Rattle.ffi.specs.Known.{asked_of};
 ghost use Rattle.ffi.specs.Lookups.{IsSpentShown};

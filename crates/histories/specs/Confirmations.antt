@@ -11,9 +11,9 @@ use Rattle.coins.specs.Coins.{same}
 use Rattle.undo.specs.Effect.{spends}
 use Rattle.tree.specs.Branches.{Blocks, block_at, height, on}
 use Rattle.tree.specs.Names.{names}
-use Rattle.chain.specs.Regtest.{ledger}
-use Rattle.chain.specs.Replay.{coins_at}
-use Rattle.chain.specs.Rules.{Rules}
+use Rattle.model.specs.Regtest.{ledger}
+use Rattle.model.specs.Replay.{coins_at}
+use Rattle.model.specs.Rules.{Rules}
 
 -- whether a transaction of a block spends an output
 abbrev pub is_spent_in : List Tx → OutPoint → Bool

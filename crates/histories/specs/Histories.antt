@@ -1,9 +1,9 @@
 -- Histories without their verdicts; what was asked and replied.
 use Rattle.std.specs.Prelude.{◌≢◌, Bool, true, false, if◌then◌else◌, List, [], ◌∷◌, map, Option, None}
-use Rattle.chain.specs.declared.command.Command.{Command}
-use Rattle.chain.specs.declared.command.Command.TheVariants.{Submit, Invalidate, Reconsider, Precious, Learn}
-use Rattle.chain.specs.declared.entry.Entry.{Entry}
-use Rattle.chain.specs.declared.reply.Reply.{Reply}
+use Rattle.model.specs.declared.command.Command.{Command}
+use Rattle.model.specs.declared.command.Command.TheVariants.{Submit, Invalidate, Reconsider, Precious, Learn}
+use Rattle.model.specs.declared.entry.Entry.{Entry}
+use Rattle.model.specs.declared.reply.Reply.{Reply}
 
 -- whether a command tells a verdict on a signature
 abbrev pub is_verdict : Command → Bool

@@ -3,7 +3,7 @@ use Rattle.std.specs.Prelude.{if◌then◌else◌}
 use Rattle.std.proofs.Common.{◌≡◌, ℕ, zero, suc, ◌<◌, List, [], ◌∷◌, Bool, true, false, Some, length, get_or, slice_get, refl, sym, ap, ◌∙◌, arith}
 use Rattle.script.specs.Kinds.{is_push_only}
 use Rattle.txn.specs.declared.input.TxIn.{TxIn}
-use Rattle.curve.specs.Known.{Known}
+use Rattle.signatures.specs.Known.{Known}
 use Rattle.interp.specs.Answer.{Says}
 use Rattle.interp.specs.Question.{Question}
 use Rattle.interp.specs.Stack.{Stack}

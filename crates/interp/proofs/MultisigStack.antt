@@ -5,7 +5,7 @@ use Rattle.std.proofs.lemmas.List.{drop-drop, drop_all, length-take-le}
 use Rattle.std.proofs.lemmas.Bool.{cases_lt}
 use borrow.Author.Tests.{lt-ltb, le-ltb}
 use Rattle.std.specs.Option.{option_map}
-use Rattle.curve.specs.Known.{Known}
+use Rattle.signatures.specs.Known.{Known}
 use Rattle.interp.specs.Answer.{answer_map, on_some}
 use Rattle.interp.specs.Question.{Question}
 use Rattle.interp.specs.Stack.{Stack, Bytes}

@@ -6,7 +6,7 @@ use Rattle.script.specs.Kinds.{is_push_only}
 use Rattle.script.specs.Ops.{ops, rest, is_whole}
 use Rattle.script.specs.laws.Ops.{rest-more}
 use Rattle.txn.specs.declared.input.TxIn.{TxIn}
-use Rattle.curve.specs.Known.{Known}
+use Rattle.signatures.specs.Known.{Known}
 use Rattle.interp.specs.Answer.{Says}
 use Rattle.interp.specs.Question.{Question}
 use Rattle.interp.specs.Stack.{Stack}

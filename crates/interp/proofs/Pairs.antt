@@ -7,12 +7,12 @@ use Rattle.std.proofs.lemmas.Bool.{cases_lt, eq-eqb}
 use borrow.Author.Tests.{ne_eqb, lt-ltb, le-ltb}
 use Rattle.script.specs.Removal.{bytes_of}
 use Rattle.sighash.specs.Digest.{digest_of}
-use Rattle.curve.specs.Known.{Known}
-use Rattle.curve.specs.Triple.{Triple, triple_of}
+use Rattle.signatures.specs.Known.{Known}
+use Rattle.signatures.specs.Triple.{Triple, triple_of}
 use Rattle.interp.specs.Answer.{Answer, Says, Wants, answer_map, and_then}
 use Rattle.interp.specs.Question.{Question}
 use Rattle.interp.specs.Signatures.{signed_code, signature_proper, type_of}
-use Rattle.curve.specs.computed.Shape.{is_strict}
+use Rattle.signatures.specs.computed.Shape.{is_strict}
 use Rattle.interp.specs.declared.flags.Flags.{Flags}
 use Rattle.interp.specs.Stack.{Bytes, Stack, nth}
 use Rattle.interp.specs.inside.Multisig.{keys_in, signatures_in, multisig_answer}

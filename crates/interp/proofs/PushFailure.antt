@@ -1,7 +1,7 @@
 -- A push of bytes fails for one reason alone.
 use Rattle.std.specs.Prelude.{if◌then◌else◌}
 use Rattle.std.proofs.Common.{◌≡◌, ℕ, ◌≤◌, List, Bool, true, false, Option, nat_lt, length, sym, ap, arith}
-use Rattle.curve.specs.Known.{Known}
+use Rattle.signatures.specs.Known.{Known}
 use Rattle.interp.specs.Question.{Question}
 use Rattle.interp.specs.Stack.{Bytes}
 use Rattle.interp.specs.State.{State, is_executing}

@@ -1,7 +1,7 @@
 -- Answers by what is known of signatures.
 use Rattle.std.specs.Prelude.{◌≡◌, Bool, true, false, Option, Some, None, Result, Ok, Err}
 use Rattle.std.specs.Box.{box_value}
-use Rattle.curve.specs.Triple.{Triple}
+use Rattle.signatures.specs.Triple.{Triple}
 use Rattle.interp.specs.declared.no_verdict.Unverified.{Unverified}
 use Rattle.interp.specs.declared.no_verdict.Unverified.TheVariants.{Memory, Unknown}
 

@@ -5,7 +5,7 @@ use Rattle.script.specs.Ops.{ops, rest}
 use Rattle.script.specs.Kinds.{is_push_only, is_p2sh, max_script_size}
 use Rattle.txn.specs.declared.tx.Tx.{Tx}
 use Rattle.txn.specs.declared.input.TxIn.{TxIn}
-use Rattle.curve.specs.Triple.{Triples}
+use Rattle.signatures.specs.Triple.{Triples}
 use Rattle.interp.specs.Limits.{max_ops, max_keys, max_elements, max_number_size}
 use Rattle.interp.specs.Stack.{Stack, Bytes, pop}
 use Rattle.interp.specs.Elements.{truth_bytes, top_is_true, natural_of}

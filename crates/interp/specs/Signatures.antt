@@ -5,8 +5,8 @@ use Rattle.std.specs.FinSet as set
 use Rattle.script.specs.Op.{op_pushdata1, op_pushdata2, op_pushdata4}
 use Rattle.script.specs.Removal.{without}
 use Rattle.sighash.specs.Digest.{digest_of}
-use Rattle.curve.specs.Shape.{IsStrict}
-use Rattle.curve.specs.Triple.{triple_of}
+use Rattle.signatures.specs.Shape.{IsStrict}
+use Rattle.signatures.specs.Triple.{triple_of}
 use Rattle.interp.specs.Stack.{Bytes}
 use Rattle.interp.specs.ScriptContext.{Spending}
 use Rattle.interp.specs.declared.flags.Flags.{Flags}

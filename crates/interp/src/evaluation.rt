@@ -12,8 +12,8 @@ use crate::no_verdict::Unverified;
 use crate::pile::Pile;
 use crate::script_error::ScriptError;
 use crate::verification::first_op;
-use curve::KnowsSignatures;
 use script::{MAX_SCRIPT_SIZE, is_p2sh, push_only};
+use signatures::KnowsSignatures;
 use std::alloc::Global;
 
 /// Runs a script on a stack as one of the job's, and gives the stack that it leaves, or why it fails (Bitcoin Core's

@@ -2,7 +2,7 @@
 
 ghost use Rattle.std.specs.Prelude.{◌≡◌, ◌<◌, ◌≤◌, ◌+◌, ℕ, List, length, option_and_then, IfOk, IfSome};
 ghost use Rattle.script.specs.Op.{number_of};
-ghost use Rattle.curve.specs.Known.{Known};
+ghost use Rattle.signatures.specs.Known.{Known};
 ghost use Rattle.interp.specs.Answer.{answer_map};
 ghost use Rattle.interp.specs.inside.Outcomes.{Goes, Leaves, GoesNamed, LeavesNamed};
 ghost use Rattle.interp.specs.inside.Multisig.{counts_of};
@@ -29,11 +29,11 @@ use crate::numbers::{Binary, join_numbers};
 use crate::op::{Op, Test, op_of};
 use crate::pile::Pile;
 use crate::script_error::ScriptError;
-use crate::signatures::judge;
+use crate::signature_check::judge;
 use crate::timelocks::{meets_lock_time, meets_sequence};
-use curve::KnowsSignatures;
 use script::opcode::*;
 use script::pushed;
+use signatures::KnowsSignatures;
 use std::alloc::Global;
 use std::marker::Model;
 use wire::Memory;

@@ -1,14 +1,14 @@
 //! What holds of the definitions.
 
 ghost use Rattle.std.specs.Prelude.{◌≡◌, ◌↔◌, ℕ, List, IsTrue};
-ghost use Rattle.curve.specs.Known.{Known};
+ghost use Rattle.signatures.specs.Known.{Known};
 ghost use Rattle.interp.specs.Question.{Question};
 ghost use Rattle.interp.specs.Stack.{Stack};
 ghost use Rattle.interp.specs.computed.Step.{outcome, verdict};
 ghost use Rattle.interp.specs.computed.NamedFailures.{eval_script, verify_script};
 ghost use Rattle.interp.specs.laws.FailureNames.{unnamed, passes};
 ghost use Rattle.txn.specs.declared.tx.Tx.{Tx};
-ghost use Rattle.curve.specs.Triple.{Triples};
+ghost use Rattle.signatures.specs.Triple.{Triples};
 ghost use Rattle.interp.specs.declared.flags.Flags.{Flags};
 ghost use Rattle.interp.specs.Rules.{Accepts};
 ghost use Rattle.interp.specs.computed.InputVerdict.{accepts};

@@ -19,7 +19,7 @@ mod op;
 mod pile;
 mod places;
 mod script_error;
-mod signatures;
+mod signature_check;
 mod timelocks;
 mod verification;
 

@@ -14,8 +14,8 @@ use crate::element::{Element, natural};
 use crate::job::Job;
 use crate::no_verdict::Unverified;
 use crate::pile::Pile;
-use crate::signatures::{digest_for, is_valid, may_be_tried, signed_parts};
-use curve::KnowsSignatures;
+use crate::signature_check::{digest_for, is_valid, may_be_tried, signed_parts};
+use signatures::KnowsSignatures;
 use std::alloc::Global;
 use wire::Memory;
 

@@ -12,9 +12,9 @@ use crate::execution::Execution;
 use crate::job::Job;
 use crate::no_verdict::Unverified;
 use crate::pile::Pile;
-use curve::{KnowsSignatures, Table};
 use script::opcode::OP_PUSHDATA4;
 use script::{MAX_SCRIPT_SIZE, Ops, is_p2sh, push_only};
+use signatures::{KnowsSignatures, Table};
 use std::alloc::Global;
 use wire::Memory;
 

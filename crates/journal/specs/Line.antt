@@ -4,10 +4,10 @@ use Rattle.std.specs.Fmt.{decimal}
 use Rattle.std.specs.Option.{option_map}
 use Rattle.block.specs.BlockOfBytes.{block_of_bytes}
 use Rattle.block.specs.Identity.{id_of}
-use Rattle.chain.specs.declared.command.Command.{Command}
-use Rattle.chain.specs.declared.command.Command.TheVariants as command
-use Rattle.chain.specs.declared.reply.Reply.{Reply}
-use Rattle.chain.specs.ReplyText.{text_of_reply}
+use Rattle.model.specs.declared.command.Command.{Command}
+use Rattle.model.specs.declared.command.Command.TheVariants as command
+use Rattle.model.specs.declared.reply.Reply.{Reply}
+use Rattle.model.specs.ReplyText.{text_of_reply}
 use Rattle.journal.specs.declared.step.Asked.{Asked}
 use Rattle.journal.specs.declared.step.Asked.TheVariants as asked
 use Rattle.journal.specs.declared.step.Step.{Step}

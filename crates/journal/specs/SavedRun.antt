@@ -4,9 +4,9 @@ use Rattle.wire.specs.Numbers.{limit}
 use Rattle.block.specs.declared.blk_fault.BlkFault.{BlkFault}
 use Rattle.block.specs.Blk.{record_bytes, IsEnd, IsFault}
 use Rattle.block.specs.laws.Files.{Gave}
-use Rattle.chain.specs.declared.command.Command.{Command}
-use Rattle.chain.specs.declared.command.Command.TheVariants as command
-use Rattle.chain.specs.declared.entry.Entry.{Entry}
+use Rattle.model.specs.declared.command.Command.{Command}
+use Rattle.model.specs.declared.command.Command.TheVariants as command
+use Rattle.model.specs.declared.entry.Entry.{Entry}
 
 -- the blk record of what a command submits; marks and verdicts have none
 abbrev pub record_asked : Command → List ℕ

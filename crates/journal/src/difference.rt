@@ -2,15 +2,15 @@
 
 ghost use Rattle.std.specs.Prelude.{◌≡◌, IfOk, IfSome, None, Some, option_map, slice_get};
 ghost use Rattle.tree.specs.State.{opening};
-ghost use Rattle.chain.specs.Regtest.{regtest};
-ghost use Rattle.chain.specs.Commands.{replies_of};
+ghost use Rattle.model.specs.Regtest.{regtest};
+ghost use Rattle.model.specs.Commands.{replies_of};
 ghost use Rattle.journal.specs.Agreement.{agrees, IsFirstDifference};
 
 use crate::quick::quick;
-use chain::{Command, Reply};
-use curve::Table;
+use model::{Command, Reply};
 use reference::{Watch, slow_watched};
 use rules::Params;
+use signatures::Table;
 use std::alloc::Global;
 use wire::Memory;
 

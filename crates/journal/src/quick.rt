@@ -2,16 +2,16 @@
 
 ghost use Rattle.std.specs.Prelude.{◌≡◌, IfOk};
 ghost use Rattle.tree.specs.State.{opening};
-ghost use Rattle.chain.specs.Regtest.{regtest};
-ghost use Rattle.chain.specs.Commands.{replies_of};
+ghost use Rattle.model.specs.Regtest.{regtest};
+ghost use Rattle.model.specs.Commands.{replies_of};
 
 use activate::Chainstate;
-use chain::{Command, PreparedCommand, Reply};
 use connect::Env;
-use curve::Table;
+use model::{Command, PreparedCommand, Reply};
 use queue::{Alone, Open};
 use reference::Watch;
 use rules::Params;
+use signatures::Table;
 use std::alloc::Global;
 use wire::Memory;
 

@@ -7,7 +7,7 @@ ghost use Rattle.block.specs.Blk.{record_bytes};
 ghost use Rattle.journal.specs.SavedRun.{record_of, is_long};
 ghost use Rattle.journal.specs.declared.records.RecordFault.TheVariants as faults;
 
-use chain::{Command, Entry};
+use model::{Command, Entry};
 use std::alloc::{AllocError, Global};
 
 /// What each of regtest's records begins with (Bitcoin Core's message start).

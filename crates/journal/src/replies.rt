@@ -2,7 +2,7 @@
 
 ghost use Rattle.std.specs.Prelude.{◌≡◌, ◌++◌, true, IfSome};
 
-use chain::{MarkReply, SubmitReply};
+use model::{MarkReply, SubmitReply};
 use std::fmt;
 use std::fmt::Write;
 use txn::Reason;

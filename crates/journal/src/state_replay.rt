@@ -2,17 +2,17 @@
 
 ghost use Rattle.std.specs.Prelude.{◌≡◌, IfOk};
 ghost use Rattle.tree.specs.State.{opening};
-ghost use Rattle.chain.specs.Regtest.{regtest};
-ghost use Rattle.chain.specs.Commands.{replies_of, state_after_commands};
-ghost use Rattle.chain.specs.Settle.{best};
+ghost use Rattle.model.specs.Regtest.{regtest};
+ghost use Rattle.model.specs.Commands.{replies_of, state_after_commands};
+ghost use Rattle.model.specs.Settle.{best};
 
 use activate::Chainstate;
-use chain::{Command, Reply};
 use connect::Env;
-use curve::Table;
 use hash::Id;
+use model::{Command, Reply};
 use queue::{Alone, Open};
 use rules::Params;
+use signatures::Table;
 use std::alloc::Global;
 use wire::Memory;
 

@@ -6,8 +6,8 @@ ghost use Rattle.block.specs.declared.fault.ReadFault.TheVariants as faults;
 ghost use Rattle.journal.specs.Line.{asked_of, named_by, when_of, word_of, moment_of, text_of_answer, front_of, rest_of};
 
 use block::ReadFault;
-use chain::{Command, Entry, Reply};
 use hash::Id;
+use model::{Command, Entry, Reply};
 use std::alloc::Global;
 use std::fmt;
 

@@ -7,20 +7,20 @@ use Rattle.block.specs.declared.block.Block.{Block}
 use Rattle.block.specs.BlockOfBytes.{block_of_bytes}
 use Rattle.tree.specs.Branches.{has, place_of}
 use Rattle.tree.specs.State.{State, has_no_mark, with_block, with_call}
-use Rattle.chain.specs.declared.command.Command.{Command}
-use Rattle.chain.specs.declared.command.Command.TheVariants as command
-use Rattle.chain.specs.declared.reply.Reply.{Reply}
-use Rattle.chain.specs.declared.reply.Reply.TheVariants as reply
-use Rattle.chain.specs.declared.reply.MarkReply.TheVariants.{Done}
-use Rattle.chain.specs.declared.reply.SubmitReply.{SubmitReply}
-use Rattle.chain.specs.declared.reply.SubmitReply.TheVariants.{Accepted, Inconclusive, Duplicate, DuplicateInvalid, DuplicateInconclusive, Rejected, DecodeFailed, TreeFull}
-use Rattle.chain.specs.Rules.{Rules}
-use Rattle.chain.specs.Valid.{fault}
-use Rattle.chain.specs.Settle.{active, settle}
-use Rattle.chain.specs.Context.{first_fault}
-use Rattle.chain.specs.Submission.{Outcome, submit_says, reply_by_reason, answer_known, answer_added, outcome_by_fault, outcome_of_submission}
-use Rattle.chain.specs.Step.{Submit, Invalidate, Reconsider, Precious, mark_says, outcome_of_invalidate, outcome_of_reconsider, outcome_of_precious, step}
-use Rattle.chain.specs.Commands.{submit_step, command_step, outcome}
+use Rattle.model.specs.declared.command.Command.{Command}
+use Rattle.model.specs.declared.command.Command.TheVariants as command
+use Rattle.model.specs.declared.reply.Reply.{Reply}
+use Rattle.model.specs.declared.reply.Reply.TheVariants as reply
+use Rattle.model.specs.declared.reply.MarkReply.TheVariants.{Done}
+use Rattle.model.specs.declared.reply.SubmitReply.{SubmitReply}
+use Rattle.model.specs.declared.reply.SubmitReply.TheVariants.{Accepted, Inconclusive, Duplicate, DuplicateInvalid, DuplicateInconclusive, Rejected, DecodeFailed, TreeFull}
+use Rattle.model.specs.Rules.{Rules}
+use Rattle.model.specs.Valid.{fault}
+use Rattle.model.specs.Settle.{active, settle}
+use Rattle.model.specs.Context.{first_fault}
+use Rattle.model.specs.Submission.{Outcome, submit_says, reply_by_reason, answer_known, answer_added, outcome_by_fault, outcome_of_submission}
+use Rattle.model.specs.Step.{Submit, Invalidate, Reconsider, Precious, mark_says, outcome_of_invalidate, outcome_of_reconsider, outcome_of_precious, step}
+use Rattle.model.specs.Commands.{submit_step, command_step, outcome}
 use Rattle.node.specs.inside.Kept.{is_step, IsReplyTo, IsUndecodable}
 
 -- a reply to a submission that was a step

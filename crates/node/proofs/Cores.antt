@@ -4,8 +4,8 @@ use Rattle.std.specs.FinMap as coin_map
 use Rattle.std.specs.Option.{option_and_then}
 use Rattle.hash.specs.declared.id.Id.{Id}
 use Rattle.block.specs.declared.block.Block.{Block}
-use Rattle.curve.specs.Known.{Agrees, Under}
-use Rattle.curve.specs.Triple.{Triples}
+use Rattle.signatures.specs.Known.{Agrees, Under}
+use Rattle.signatures.specs.Triple.{Triples}
 use Rattle.rules.specs.declared.params.Params.{Params}
 use Rattle.tree.specs.Branches.{height, place_of}
 use Rattle.tree.specs.Limits.{max_blocks}
@@ -15,15 +15,15 @@ use Rattle.tree.specs.Tips.{tip_of_id}
 use Rattle.coins.specs.Coins.{Coins}
 use Rattle.coins.specs.declared.coin.Coin.{Coin}
 use Rattle.coins.specs.Changes.{Changes, AreChanges}
-use Rattle.chain.specs.declared.command.Command.{Command}
-use Rattle.chain.specs.declared.reply.Reply.{Reply}
-use Rattle.chain.specs.declared.entry.Entry.{Entry}
-use Rattle.chain.specs.History.{entry_of}
-use Rattle.chain.specs.Learnt.{IsNews, found_in}
-use Rattle.chain.specs.laws.Learnt.{agreed_with_front, one_agrees}
-use Rattle.chain.specs.Regtest.{regtest, ledger}
-use Rattle.chain.specs.Replay.{coins}
-use Rattle.chain.specs.Settle.{active, best, tips}
+use Rattle.model.specs.declared.command.Command.{Command}
+use Rattle.model.specs.declared.reply.Reply.{Reply}
+use Rattle.model.specs.declared.entry.Entry.{Entry}
+use Rattle.model.specs.History.{entry_of}
+use Rattle.model.specs.Learnt.{IsNews, found_in}
+use Rattle.model.specs.laws.Learnt.{agreed_with_front, one_agrees}
+use Rattle.model.specs.Regtest.{regtest, ledger}
+use Rattle.model.specs.Replay.{coins}
+use Rattle.model.specs.Settle.{active, best, tips}
 use Rattle.activate.specs.CoreState.{CoreState, Follows, opened_core}
 use Rattle.activate.specs.CoreState as core_state
 use Rattle.activate.specs.Lookups.{spent_at, spent_by}

@@ -3,17 +3,17 @@ use Rattle.std.proofs.Common.{◌≡◌, List, Result, Ok, Err, IfOk, IfErr, inl
 use Rattle.block.specs.declared.block.Block.{Block}
 use Rattle.rules.specs.declared.params.Params.{Params}
 use Rattle.tree.specs.State.{State}
-use Rattle.chain.specs.Commands.{outcome}
-use Rattle.chain.specs.declared.command.Command.{Command}
-use Rattle.chain.specs.declared.command.Command.TheVariants as command
-use Rattle.chain.specs.declared.reply.MarkReply.{MarkReply}
-use Rattle.chain.specs.declared.reply.Reply.{Reply}
-use Rattle.chain.specs.declared.reply.Reply.TheVariants as reply
-use Rattle.chain.specs.declared.entry.Entry.{Entry}
-use Rattle.chain.specs.Learnt.{found_in}
-use Rattle.chain.specs.Submission.{Outcome}
-use Rattle.chain.specs.laws.Learnt.{one_agrees}
-use Rattle.chain.specs.Regtest.{regtest}
+use Rattle.model.specs.Commands.{outcome}
+use Rattle.model.specs.declared.command.Command.{Command}
+use Rattle.model.specs.declared.command.Command.TheVariants as command
+use Rattle.model.specs.declared.reply.MarkReply.{MarkReply}
+use Rattle.model.specs.declared.reply.Reply.{Reply}
+use Rattle.model.specs.declared.reply.Reply.TheVariants as reply
+use Rattle.model.specs.declared.entry.Entry.{Entry}
+use Rattle.model.specs.Learnt.{found_in}
+use Rattle.model.specs.Submission.{Outcome}
+use Rattle.model.specs.laws.Learnt.{one_agrees}
+use Rattle.model.specs.Regtest.{regtest}
 use Rattle.activate.specs.CoreState.{CoreState}
 use Rattle.view.specs.Origin.{Origin}
 use Rattle.view.specs.ViewState.{state_after}

@@ -10,18 +10,18 @@ use Rattle.tree.specs.Branches.{height, place_of}
 use Rattle.tree.specs.State.{State, without_marks, with_call}
 use Rattle.tree.specs.Limits.{max_blocks}
 use Rattle.tree.specs.laws.Parents.{height-place}
-use Rattle.chain.specs.declared.command.Command.{Command}
-use Rattle.chain.specs.declared.command.Command.TheVariants as command
-use Rattle.chain.specs.declared.reply.MarkReply.TheVariants.{Done}
-use Rattle.chain.specs.declared.reply.SubmitReply.TheVariants.{DecodeFailed, TreeFull}
-use Rattle.chain.specs.Rules.{Rules}
-use Rattle.chain.specs.Settle.{active, settle}
-use Rattle.chain.specs.Context.{first_fault}
-use Rattle.chain.specs.Submission.{submit_says, kept_blocks, outcome_by_fault, outcome_of_submission}
-use Rattle.chain.specs.Step.{mark_says, outcome_of_invalidate, outcome_of_reconsider, outcome_of_precious, step}
-use Rattle.chain.specs.Commands.{submit_step, command_step, outcome}
-use Rattle.chain.specs.StateInvariant.{IsSettled}
-use Rattle.chain.specs.laws.Actives.{active_kept}
+use Rattle.model.specs.declared.command.Command.{Command}
+use Rattle.model.specs.declared.command.Command.TheVariants as command
+use Rattle.model.specs.declared.reply.MarkReply.TheVariants.{Done}
+use Rattle.model.specs.declared.reply.SubmitReply.TheVariants.{DecodeFailed, TreeFull}
+use Rattle.model.specs.Rules.{Rules}
+use Rattle.model.specs.Settle.{active, settle}
+use Rattle.model.specs.Context.{first_fault}
+use Rattle.model.specs.Submission.{submit_says, kept_blocks, outcome_by_fault, outcome_of_submission}
+use Rattle.model.specs.Step.{mark_says, outcome_of_invalidate, outcome_of_reconsider, outcome_of_precious, step}
+use Rattle.model.specs.Commands.{submit_step, command_step, outcome}
+use Rattle.model.specs.StateInvariant.{IsSettled}
+use Rattle.model.specs.laws.Actives.{active_kept}
 
 -- so many blocks are kept at most
 abbrev pub AreFew : State Block → Type 0

@@ -2,15 +2,15 @@
 use Rattle.std.proofs.Common.{◌≡◌, Bool, true, false, List, [], ◌∷◌, Option, Some, None, refl, ap, sym, ◌∙◌, subst}
 use mathlib.Core.List.{IsPrefix}
 use Rattle.std.specs.Ordering.{eq_by_cmp}
-use Rattle.curve.specs.Known.{Verdicts, all_known, verdict_in, with_verdict}
-use Rattle.curve.specs.Triple.{Triple, Triples, triple_cmp}
-use Rattle.curve.specs.laws.Growth.{Grows, learning-grows, learnt-at, one-same}
+use Rattle.signatures.specs.Known.{Verdicts, all_known, verdict_in, with_verdict}
+use Rattle.signatures.specs.Triple.{Triple, Triples, triple_cmp}
+use Rattle.signatures.specs.laws.Growth.{Grows, learning-grows, learnt-at, one-same}
 use Rattle.queue.specs.Jobs.{Answered, IsEarly}
-use Rattle.chain.specs.declared.command.Command.{Command}
-use Rattle.chain.specs.declared.command.Command.TheVariants.{Submit, Invalidate, Reconsider, Precious, Learn}
-use Rattle.chain.specs.declared.entry.Entry.{Entry}
-use Rattle.chain.specs.Learnt.{AreNewsFrom, IsNews, found_by, found_from, found_in, known_by, none_found}
-use Rattle.chain.specs.laws.Learnt.{are_news-rest, found_from-append}
+use Rattle.model.specs.declared.command.Command.{Command}
+use Rattle.model.specs.declared.command.Command.TheVariants.{Submit, Invalidate, Reconsider, Precious, Learn}
+use Rattle.model.specs.declared.entry.Entry.{Entry}
+use Rattle.model.specs.Learnt.{AreNewsFrom, IsNews, found_by, found_from, found_in, known_by, none_found}
+use Rattle.model.specs.laws.Learnt.{are_news-rest, found_from-append}
 use Rattle.view.specs.HistoryPrefix.{Beginning}
 use Rattle.view.specs.Origin.{Origin, known_in}
 use Rattle.view.specs.ViewState.{IsLegal}

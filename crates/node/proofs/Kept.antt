@@ -2,24 +2,24 @@
 use Rattle.std.proofs.Common.{◌≡◌, ℕ, ◌<◌, true, false, List, [], ◌∷◌, ◌++◌, Option, Some, ◌⊎◌, inl, inr, refl, sym, ap, subst, ◌∙◌, arith}
 use Rattle.std.specs.FinMap as coin_map
 use Rattle.block.specs.declared.block.Block.{Block}
-use Rattle.curve.specs.Known.{Agrees, Under}
-use Rattle.curve.specs.Triple.{Triples}
+use Rattle.signatures.specs.Known.{Agrees, Under}
+use Rattle.signatures.specs.Triple.{Triples}
 use Rattle.rules.specs.declared.params.Params.{Params}
 use Rattle.tree.specs.State.{State}
-use Rattle.chain.specs.declared.command.Command.{Command}
-use Rattle.chain.specs.declared.reply.Reply.{Reply}
-use Rattle.chain.specs.declared.reply.Reply.TheVariants as reply
-use Rattle.chain.specs.declared.reply.SubmitReply.TheVariants.{DecodeFailed}
-use Rattle.chain.specs.declared.entry.Entry.{Entry}
-use Rattle.chain.specs.Submission.{Outcome, submit_says}
-use Rattle.chain.specs.Commands.{command_step, outcome}
-use Rattle.chain.specs.Regtest.{regtest}
-use Rattle.chain.specs.Machine.{Machine}
-use Rattle.chain.specs.History.{state_left, state_after_entries, Answers, entry_of}
+use Rattle.model.specs.declared.command.Command.{Command}
+use Rattle.model.specs.declared.reply.Reply.{Reply}
+use Rattle.model.specs.declared.reply.Reply.TheVariants as reply
+use Rattle.model.specs.declared.reply.SubmitReply.TheVariants.{DecodeFailed}
+use Rattle.model.specs.declared.entry.Entry.{Entry}
+use Rattle.model.specs.Submission.{Outcome, submit_says}
+use Rattle.model.specs.Commands.{command_step, outcome}
+use Rattle.model.specs.Regtest.{regtest}
+use Rattle.model.specs.Machine.{Machine}
+use Rattle.model.specs.History.{state_left, state_after_entries, Answers, entry_of}
 use Rattle.activate.specs.CoreState.{WithCoins, IsChainstate, opened_core}
-use Rattle.chain.specs.Learnt.{AreNews, IsNews, found_in, none_found}
-use Rattle.chain.specs.laws.History.{state_after-append, legal_push}
-use Rattle.chain.specs.laws.Learnt.{agreed_with_front, are_news-push, one_agrees}
+use Rattle.model.specs.Learnt.{AreNews, IsNews, found_in, none_found}
+use Rattle.model.specs.laws.History.{state_after-append, legal_push}
+use Rattle.model.specs.laws.Learnt.{agreed_with_front, are_news-push, one_agrees}
 use Rattle.view.specs.Origin.{Origin, known_in, machine}
 use Rattle.view.specs.ViewState.{IsLegal, IsLegalWith, state_after}
 use Rattle.view.specs.laws.Exact.{opening_legal}

@@ -3,22 +3,22 @@ use Rattle.std.proofs.Common.{◌≡◌, Bool, List, [], ◌∷◌, ◌++◌, Op
 use Rattle.std.specs.List.{All}
 use Rattle.std.specs.List.Sorted.{IsStrictlySortedBy}
 use Rattle.rules.specs.declared.params.Params.{Params}
-use Rattle.curve.specs.Known.{Agrees, Known, verdict_in, with_verdict}
-use Rattle.curve.specs.Triple.{Triple, Triples}
+use Rattle.signatures.specs.Known.{Agrees, Known, verdict_in, with_verdict}
+use Rattle.signatures.specs.Triple.{Triple, Triples}
 use Rattle.queue.specs.Jobs.{Answered, IsEarly}
 use Rattle.coins.specs.Coins.{Coins}
 use Rattle.coins.specs.Changes.{AreChanges}
-use Rattle.chain.specs.declared.command.Command.{Command}
-use Rattle.chain.specs.declared.command.Command.TheVariants as command
-use Rattle.chain.specs.declared.reply.MarkReply.TheVariants.{Done}
-use Rattle.chain.specs.declared.reply.Reply.{Reply}
-use Rattle.chain.specs.declared.reply.Reply.TheVariants as reply
-use Rattle.chain.specs.declared.entry.Entry.{Entry}
-use Rattle.chain.specs.Learnt.{found_by, found_in, known_by}
-use Rattle.chain.specs.Regtest.{regtest}
-use Rattle.chain.specs.Settle.{active}
-use Rattle.chain.specs.laws.Learnt.{found_in-push}
-use Rattle.chain.specs.laws.Outcomes.{learns}
+use Rattle.model.specs.declared.command.Command.{Command}
+use Rattle.model.specs.declared.command.Command.TheVariants as command
+use Rattle.model.specs.declared.reply.MarkReply.TheVariants.{Done}
+use Rattle.model.specs.declared.reply.Reply.{Reply}
+use Rattle.model.specs.declared.reply.Reply.TheVariants as reply
+use Rattle.model.specs.declared.entry.Entry.{Entry}
+use Rattle.model.specs.Learnt.{found_by, found_in, known_by}
+use Rattle.model.specs.Regtest.{regtest}
+use Rattle.model.specs.Settle.{active}
+use Rattle.model.specs.laws.Learnt.{found_in-push}
+use Rattle.model.specs.laws.Outcomes.{learns}
 use Rattle.activate.specs.CoreState.{CoreState}
 use Rattle.activate.specs.CoreState as core_state
 use Rattle.activate.specs.Wants.{AreWantedByStep}

@@ -3,11 +3,11 @@ use Rattle.std.proofs.Common.{◌≡◌, ◌≢◌, ◌+◌, ◌-◌, ℕ, zero,
 use Rattle.std.specs.Prelude.{slice_get}
 use Rattle.std.proofs.lemmas.List.{append-nil, drop-append-le, drop-drop, drop_all, length-set, take-append-drop}
 use Rattle.std.proofs.lemmas.Bool.{eqb-true, eqb-false, ne_eqb}
-use Rattle.chain.specs.declared.command.Command.{Command}
-use Rattle.chain.specs.declared.reply.Reply.{Reply}
-use Rattle.chain.specs.declared.entry.Entry.{Entry}
-use Rattle.chain.specs.History.{own_of, entry_of}
-use Rattle.chain.specs.laws.History.{own_of-append}
+use Rattle.model.specs.declared.command.Command.{Command}
+use Rattle.model.specs.declared.reply.Reply.{Reply}
+use Rattle.model.specs.declared.entry.Entry.{Entry}
+use Rattle.model.specs.History.{own_of, entry_of}
+use Rattle.model.specs.laws.History.{own_of-append}
 use Rattle.node.specs.Pass.{owed_entry}
 use Rattle.node.specs.inside.LastPlaces.{AreLastPlaces, IsLastPlace}
 use Rattle.node.specs.inside.PublishedState.{entry_with_reply}

@@ -1,9 +1,9 @@
 -- A publication of the entry that is owed.
 use Rattle.std.proofs.Common.{◌≡◌, false, List, [], ◌∷◌, ◌++◌, Option, None, ap, sym, ◌∙◌, subst}
-use Rattle.curve.specs.Known.{Agrees}
-use Rattle.curve.specs.Triple.{Triples}
-use Rattle.chain.specs.declared.reply.Reply.{Reply}
-use Rattle.chain.specs.declared.entry.Entry.{Entry}
+use Rattle.signatures.specs.Known.{Agrees}
+use Rattle.signatures.specs.Triple.{Triples}
+use Rattle.model.specs.declared.reply.Reply.{Reply}
+use Rattle.model.specs.declared.entry.Entry.{Entry}
 use Rattle.activate.specs.CoreState.{CoreState, Follows}
 use Rattle.view.specs.Origin.{Origin, known_in}
 use Rattle.view.specs.ViewState.{IsInfo, IsLegal}

@@ -4,11 +4,11 @@ use Rattle.std.proofs.lemmas.List.{take-append-le, take-append-drop}
 use Rattle.std.proofs.lemmas.Bool.Decides.{nat_tests}
 use Rattle.std.specs.Prelude.{is_none, slice_get, Some}
 use mathlib.Core.List.{IsPrefix}
-use Rattle.chain.specs.declared.command.Command.{Command}
-use Rattle.chain.specs.declared.reply.Reply.{Reply}
-use Rattle.chain.specs.declared.entry.Entry.{Entry}
-use Rattle.chain.specs.History.{own_of, entry_of}
-use Rattle.chain.specs.laws.History.{own_of-append, own_of-one}
+use Rattle.model.specs.declared.command.Command.{Command}
+use Rattle.model.specs.declared.reply.Reply.{Reply}
+use Rattle.model.specs.declared.entry.Entry.{Entry}
+use Rattle.model.specs.History.{own_of, entry_of}
+use Rattle.model.specs.laws.History.{own_of-append, own_of-one}
 use Rattle.node.specs.Pass.{owed_entry, all_owed, up_to_last_answered}
 
 -- what begins a beginning begins the whole

@@ -4,23 +4,23 @@ use Rattle.std.proofs.lemmas.List.{same_from_push}
 use Rattle.std.specs.Option.{option_to_list}
 use Rattle.std.specs.Prelude.{slice_get, map, IfSome}
 use Rattle.block.specs.declared.block.Block.{Block}
-use Rattle.curve.specs.Known.{Agrees, Under, Verdicts}
-use Rattle.curve.specs.Triple.{Triples}
+use Rattle.signatures.specs.Known.{Agrees, Under, Verdicts}
+use Rattle.signatures.specs.Triple.{Triples}
 use Rattle.coins.specs.Changes.{Changes, AreChanges}
 use Rattle.tree.specs.Branches.{height}
 use Rattle.tree.specs.Limits.{max_blocks}
 use Rattle.tree.specs.State.{State}
 use Rattle.tree.specs.Tips.{tip_of_id}
-use Rattle.chain.specs.declared.command.Command.{Command}
-use Rattle.chain.specs.declared.reply.Reply.{Reply}
-use Rattle.chain.specs.declared.entry.Entry.{Entry}
-use Rattle.chain.specs.History.{Answers, Stands, entry_of, state_after_entries}
-use Rattle.chain.specs.Regtest.{ledger, regtest}
-use Rattle.chain.specs.Replay.{coins}
-use Rattle.chain.specs.Settle.{active}
-use Rattle.chain.specs.laws.History.{state_after-append, legal_push, legal_front, stands_within}
-use Rattle.chain.specs.Learnt.{AreNews, found_in, known_by}
-use Rattle.chain.specs.laws.Learnt.{agreed_with_front, one_agrees}
+use Rattle.model.specs.declared.command.Command.{Command}
+use Rattle.model.specs.declared.reply.Reply.{Reply}
+use Rattle.model.specs.declared.entry.Entry.{Entry}
+use Rattle.model.specs.History.{Answers, Stands, entry_of, state_after_entries}
+use Rattle.model.specs.Regtest.{ledger, regtest}
+use Rattle.model.specs.Replay.{coins}
+use Rattle.model.specs.Settle.{active}
+use Rattle.model.specs.laws.History.{state_after-append, legal_push, legal_front, stands_within}
+use Rattle.model.specs.Learnt.{AreNews, found_in, known_by}
+use Rattle.model.specs.laws.Learnt.{agreed_with_front, one_agrees}
 use Rattle.view.specs.Origin.{Origin, known_in, machine}
 use Rattle.view.specs.ViewState.{ViewState, IsExact, IsInfo, IsLegal, IsLegalWith, state_after, coins_after, after_publication, after_publications}
 use Rattle.view.specs.NextPublications.{IsNext, IsOwed, AllOwed, AllFollow}

@@ -5,10 +5,10 @@ use Rattle.block.specs.declared.block.Block.{Block}
 use Rattle.txn.specs.declared.outpoint.OutPoint.{OutPoint}
 use Rattle.coins.specs.Coins.{Coins}
 use Rattle.coins.specs.declared.coin.Coin.{Coin}
-use Rattle.curve.specs.Known.{Agrees, Under}
-use Rattle.curve.specs.Triple.{Triples}
+use Rattle.signatures.specs.Known.{Agrees, Under}
+use Rattle.signatures.specs.Triple.{Triples}
 use Rattle.tree.specs.State.{State}
-use Rattle.chain.specs.declared.entry.Entry.{Entry}
+use Rattle.model.specs.declared.entry.Entry.{Entry}
 use Rattle.view.specs.Origin.{Origin, known_in}
 use Rattle.view.specs.ViewState.{ViewState, state_after}
 use Rattle.node.specs.Pass.{Pass, IsRead, AreCoins}

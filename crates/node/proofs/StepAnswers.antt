@@ -1,20 +1,20 @@
 -- The answer of a writing call, by its command.
 use Rattle.std.proofs.Common.{◌≡◌, ℕ, Bool, true, List, [], ◌∷◌, ◌++◌, Some, subst}
-use Rattle.curve.specs.Known.{Known}
-use Rattle.curve.specs.Triple.{Triple}
-use Rattle.chain.specs.declared.command.Command.{Command}
-use Rattle.chain.specs.declared.command.Command.TheVariants as command
-use Rattle.chain.specs.declared.entry.Entry.{Entry}
-use Rattle.chain.specs.declared.reply.MarkReply.TheVariants.{Done}
-use Rattle.chain.specs.declared.reply.Reply.{Reply}
-use Rattle.chain.specs.declared.reply.Reply.TheVariants as reply
-use Rattle.chain.specs.declared.reply.SubmitReply.TheVariants.{Accepted, Inconclusive, Duplicate, DuplicateInvalid, DuplicateInconclusive, Rejected, DecodeFailed, TreeFull}
-use Rattle.chain.specs.Commands.{command_step}
-use Rattle.chain.specs.History.{entry_of}
-use Rattle.chain.specs.Learnt.{IsNews, found_in}
-use Rattle.chain.specs.Machine.{Machine}
-use Rattle.chain.specs.laws.History.{stands_within}
-use Rattle.chain.specs.laws.Learnt.{one_agrees}
+use Rattle.signatures.specs.Known.{Known}
+use Rattle.signatures.specs.Triple.{Triple}
+use Rattle.model.specs.declared.command.Command.{Command}
+use Rattle.model.specs.declared.command.Command.TheVariants as command
+use Rattle.model.specs.declared.entry.Entry.{Entry}
+use Rattle.model.specs.declared.reply.MarkReply.TheVariants.{Done}
+use Rattle.model.specs.declared.reply.Reply.{Reply}
+use Rattle.model.specs.declared.reply.Reply.TheVariants as reply
+use Rattle.model.specs.declared.reply.SubmitReply.TheVariants.{Accepted, Inconclusive, Duplicate, DuplicateInvalid, DuplicateInconclusive, Rejected, DecodeFailed, TreeFull}
+use Rattle.model.specs.Commands.{command_step}
+use Rattle.model.specs.History.{entry_of}
+use Rattle.model.specs.Learnt.{IsNews, found_in}
+use Rattle.model.specs.Machine.{Machine}
+use Rattle.model.specs.laws.History.{stands_within}
+use Rattle.model.specs.laws.Learnt.{one_agrees}
 use Rattle.view.specs.Origin.{Origin, machine}
 use Rattle.view.specs.ViewState.{IsLegal}
 use Rattle.node.specs.Pass.{Pass, IsLater, IsWrite}

@@ -1,6 +1,6 @@
 -- Verdicts that are taken down one after the other.
 use Rattle.std.proofs.Common.{◌≡◌, Bool, List, [], ◌∷◌, ◌++◌, Ok, refl, subst, ◌∙◌}
-use Rattle.curve.specs.Triple.{Triple}
+use Rattle.signatures.specs.Triple.{Triple}
 use Rattle.node.specs.declared.answer.Learning.{Learning}
 use Rattle.node.specs.declared.answer.Learning.TheVariants as learning
 use Rattle.node.specs.declared.answer.Stamped.{Stamped}

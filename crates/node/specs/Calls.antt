@@ -1,17 +1,17 @@
 -- What the calls of a seat answer.
 use Rattle.std.specs.Prelude.{◌≡◌, ℕ, Bool, not, List, ◌∷◌, [], ◌++◌, length, Some, None}
-use Rattle.curve.specs.Known.{Under}
-use Rattle.curve.specs.Triple.{Triple, Triples}
+use Rattle.signatures.specs.Known.{Under}
+use Rattle.signatures.specs.Triple.{Triple, Triples}
 use Rattle.block.specs.BlockOfBytes.{block_of_bytes}
-use Rattle.chain.specs.declared.command.Command.{Command}
-use Rattle.chain.specs.declared.command.Command.TheVariants as command
-use Rattle.chain.specs.declared.entry.Entry.{Entry}
-use Rattle.chain.specs.declared.reply.MarkReply.TheVariants.{Done}
-use Rattle.chain.specs.declared.reply.Reply.TheVariants as reply
-use Rattle.chain.specs.declared.reply.SubmitReply.{SubmitReply}
-use Rattle.chain.specs.declared.reply.SubmitReply.TheVariants.{DecodeFailed}
-use Rattle.chain.specs.Regtest.{regtest}
-use Rattle.chain.specs.Settle.{active}
+use Rattle.model.specs.declared.command.Command.{Command}
+use Rattle.model.specs.declared.command.Command.TheVariants as command
+use Rattle.model.specs.declared.entry.Entry.{Entry}
+use Rattle.model.specs.declared.reply.MarkReply.TheVariants.{Done}
+use Rattle.model.specs.declared.reply.Reply.TheVariants as reply
+use Rattle.model.specs.declared.reply.SubmitReply.{SubmitReply}
+use Rattle.model.specs.declared.reply.SubmitReply.TheVariants.{DecodeFailed}
+use Rattle.model.specs.Regtest.{regtest}
+use Rattle.model.specs.Settle.{active}
 use Rattle.activate.specs.CoreState.{CoreState}
 use Rattle.activate.specs.Wants.{AreWantedByStep}
 use Rattle.view.specs.Origin.{Origin, known_in}

@@ -5,20 +5,20 @@ use Rattle.std.specs.Global.{Vec}
 use mathlib.Core.List.{IsPrefix}
 use Rattle.hash.specs.declared.id.Id.{Id}
 use Rattle.txn.specs.declared.outpoint.OutPoint.{OutPoint}
-use Rattle.curve.specs.Triple.{Triple, Triples}
+use Rattle.signatures.specs.Triple.{Triple, Triples}
 use Rattle.coins.specs.declared.coin.Coin.{Coin}
 use Rattle.block.specs.BlockOfBytes.{block_of_bytes}
 use Rattle.tree.specs.declared.tip.Tip.{Tip}
-use Rattle.chain.specs.declared.command.Command.{Command}
-use Rattle.chain.specs.declared.command.Command.TheVariants as command
-use Rattle.chain.specs.declared.reply.Reply.{Reply}
-use Rattle.chain.specs.declared.reply.Reply.TheVariants as reply
-use Rattle.chain.specs.declared.reply.SubmitReply.{SubmitReply}
-use Rattle.chain.specs.declared.reply.SubmitReply.TheVariants.{DecodeFailed}
-use Rattle.chain.specs.declared.reply.MarkReply.{MarkReply}
-use Rattle.chain.specs.declared.reply.MarkReply.TheVariants.{Done}
-use Rattle.chain.specs.declared.entry.Entry.{Entry}
-use Rattle.chain.specs.History.{state_at, entry_of}
+use Rattle.model.specs.declared.command.Command.{Command}
+use Rattle.model.specs.declared.command.Command.TheVariants as command
+use Rattle.model.specs.declared.reply.Reply.{Reply}
+use Rattle.model.specs.declared.reply.Reply.TheVariants as reply
+use Rattle.model.specs.declared.reply.SubmitReply.{SubmitReply}
+use Rattle.model.specs.declared.reply.SubmitReply.TheVariants.{DecodeFailed}
+use Rattle.model.specs.declared.reply.MarkReply.{MarkReply}
+use Rattle.model.specs.declared.reply.MarkReply.TheVariants.{Done}
+use Rattle.model.specs.declared.entry.Entry.{Entry}
+use Rattle.model.specs.History.{state_at, entry_of}
 use Rattle.view.specs.Origin.{Origin, known_in, machine}
 use Rattle.node.specs.declared.answer.Learning.{Learning}
 use Rattle.node.specs.declared.answer.Learning.TheVariants as learning

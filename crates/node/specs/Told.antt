@@ -2,17 +2,17 @@
 use Rattle.std.specs.Prelude.{◌≡◌, ◌⊎◌, ℕ, zero, suc, List, [], ◌∷◌, map, Option, None, Some, option_map}
 use Rattle.hash.specs.declared.id.Id.{Id}
 use Rattle.txn.specs.declared.outpoint.OutPoint.{OutPoint}
-use Rattle.curve.specs.Triple.{Triples}
+use Rattle.signatures.specs.Triple.{Triples}
 use Rattle.coins.specs.Coins.{Coins}
 use Rattle.coins.specs.declared.coin.Coin.{Coin}
 use Rattle.coins.specs.Next.{IsNext}
 use Rattle.tree.specs.declared.tip.Tip.{Tip}
 use Rattle.tree.specs.Tips.{tip_of_id}
-use Rattle.chain.specs.Commands.{outcome}
-use Rattle.chain.specs.Regtest.{ledger, regtest}
-use Rattle.chain.specs.declared.command.Command.{Command}
-use Rattle.chain.specs.declared.reply.Reply.{Reply}
-use Rattle.chain.specs.Replay.{coins}
+use Rattle.model.specs.Commands.{outcome}
+use Rattle.model.specs.Regtest.{ledger, regtest}
+use Rattle.model.specs.declared.command.Command.{Command}
+use Rattle.model.specs.declared.reply.Reply.{Reply}
+use Rattle.model.specs.Replay.{coins}
 use Rattle.activate.specs.Lookups.{spent_by}
 use Rattle.view.specs.Origin.{Origin, machine}
 use Rattle.node.specs.declared.answer.UnspentOutput.{UnspentOutput}

@@ -2,9 +2,9 @@
 
 ghost use Rattle.std.specs.Prelude.{◌≡◌, IfErr, IfOk, IfSome};
 ghost use Rattle.queue.specs.Jobs.{IsEarly};
-ghost use Rattle.chain.specs.PreparedCommand.{command_of};
-ghost use Rattle.chain.specs.declared.command.Command.TheVariants as command;
-ghost use Rattle.chain.specs.declared.reply.Reply.TheVariants as reply;
+ghost use Rattle.model.specs.PreparedCommand.{command_of};
+ghost use Rattle.model.specs.declared.command.Command.TheVariants as command;
+ghost use Rattle.model.specs.declared.reply.Reply.TheVariants as reply;
 ghost use Rattle.view.specs.Origin.{known_in};
 ghost use Rattle.node.specs.Calls.{IsJudgeFault};
 ghost use Rattle.node.specs.Told.{reply_to};
@@ -17,7 +17,7 @@ use crate::node::Node;
 use crate::published_history::{Crews, PublishedHistory, Refusal};
 use crate::seat::Seat;
 use crate::writes::{is_unknown, listed};
-use chain::{Bytes, PreparedCommand, Reply, SubmitReply};
+use model::{Bytes, PreparedCommand, Reply, SubmitReply};
 use queue::{Threaded, Verdicts};
 use std::mem::replace;
 use std::sync::Wait;

@@ -2,10 +2,10 @@
 
 ghost use Rattle.std.specs.Prelude.{◌≡◌, ◌≤◌, ◌++◌, ◌∷◌, [], Decides, MatchOption, length, map, take};
 ghost use mathlib.Core.List.{IsPrefix};
-ghost use Rattle.chain.specs.History.{own_of};
+ghost use Rattle.model.specs.History.{own_of};
 ghost use Rattle.node.specs.Pass.{owed_entry};
 
-use chain::{Command, Entry};
+use model::{Command, Entry};
 
 /// Whether the entries of a seat among these are owed, and of these commands.
 pub(crate) fn own_are(entries: &[Entry], number: usize, owed: &[Command]) -> bool

@@ -2,7 +2,7 @@
 
 ghost use Rattle.std.specs.Prelude.{◌≡◌};
 
-use chain::Entry;
+use model::Entry;
 use std::error::Error;
 use std::fmt;
 use wire::Memory;

@@ -1,15 +1,15 @@
 //! Verdicts on signatures that a seat tells, kept for scripts that it runs before the lock.
 
 ghost use Rattle.std.specs.Prelude.{◌≡◌, IfSome, Some};
-ghost use Rattle.curve.specs.Known.{verdict_in};
-ghost use Rattle.curve.specs.laws.Growth.{Grows};
+ghost use Rattle.signatures.specs.Known.{verdict_in};
+ghost use Rattle.signatures.specs.laws.Growth.{Grows};
 ghost use Rattle.queue.specs.Jobs.{IsEarly};
 ghost use Rattle.view.specs.Origin.{known_in};
 ghost use Rattle.view.specs.ViewState.{IsLegal};
 
 use crate::published_history::PublishedHistory;
-use curve::{KeptTriple, KnownSignatures, KnowsSignatures};
 use queue::Verdicts;
+use signatures::{KeptTriple, KnownSignatures, KnowsSignatures};
 use std::alloc::Global;
 use std::marker::{Model, PhantomData};
 use view::{Naming, Note};
@@ -25,7 +25,7 @@ pub(crate) struct Learnt<J: Naming> {
 impl<J: Naming> Model for Learnt<J> {
     ghost use Rattle.std.specs.Coded.{codes};
     ghost use Rattle.std.specs.Prelude.{◌≡◌};
-    ghost use Rattle.curve.specs.Known.{coded_verdicts};
+    ghost use Rattle.signatures.specs.Known.{coded_verdicts};
     ghost use Rattle.node.specs.inside.Learnt.{LearntState, IsLearnt};
 
     ghost Value = { LearntState };

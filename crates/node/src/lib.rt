@@ -19,15 +19,15 @@ mod seat;
 mod writes;
 
 pub use answer::{Learning, Stamped, UnspentOutput};
-pub use chain::{Bytes, Command, Entry, MarkReply, Reply, Submission, SubmitReply};
-pub use curve::{KeptTriple, Table};
 pub use fault::{EndFault, Fault, OpenFault};
+pub use model::{Bytes, Command, Entry, MarkReply, Reply, Submission, SubmitReply};
 pub use node::{Node, NodeOf};
 pub use note::Note;
 pub use origin::Opening;
 pub use queue::{Gate, Open};
 pub use rules::Params;
 pub use seat::Seat;
+pub use signatures::{KeptTriple, Table};
 pub use tree::{Status, Tip};
 pub use undo::BlockUndo;
 pub use view::Naming;

@@ -16,7 +16,7 @@ impl<J: Naming> Model for Note<J> {
     ghost use Rattle.std.specs.Prelude.{◌≡◌};
     ghost use Rattle.std.specs.Coded.{codes};
     ghost use Rattle.std.specs.FinSet as set;
-    ghost use Rattle.curve.specs.Triple.{triple_cmp, coded_triple};
+    ghost use Rattle.signatures.specs.Triple.{triple_cmp, coded_triple};
     ghost use Rattle.view.specs.ViewState.{IsLegal};
     ghost use Rattle.node.specs.Pass.{Heard};
 

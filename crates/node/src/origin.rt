@@ -7,8 +7,8 @@ ghost use Rattle.view.specs.Origin.{Origin, origin, origin_by_need};
 mod seat_token;
 
 pub(crate) use crate::origin::seat_token::{SeatToken, SeatTokens};
-use curve::Table;
 use rules::Params;
+use signatures::Table;
 use std::marker::Model;
 use std::sync::Arc;
 use view::EntryCount;
@@ -30,7 +30,7 @@ impl<'g> Model for Opening<'g> {
     ghost use Rattle.std.specs.Arc.{arc_value};
     ghost use Rattle.std.specs.Coded.{codes};
     ghost use Rattle.std.specs.FinSet as set;
-    ghost use Rattle.curve.specs.Triple.{triple_cmp, coded_triple};
+    ghost use Rattle.signatures.specs.Triple.{triple_cmp, coded_triple};
     ghost use Rattle.view.specs.HistoryPrefix.{count_of};
     ghost use Rattle.std.specs.Option.{option_map};
     ghost use Rattle.view.specs.Origin.{Origin, origin_of};

@@ -4,11 +4,11 @@
 ghost use Rattle.std.specs.Prelude.{◌≡◌, ◌≤◌, ◌∷◌, ◌++◌, [], true, false, All, Decides, IfOk, IfErr, IfSome, OnErr, List, Some, drop, length, map};
 ghost use mathlib.Core.List.{IsPrefix};
 ghost use Rattle.std.specs.Arc.{arc_value};
-ghost use Rattle.chain.specs.declared.entry.Entry.{Entry as EntryValue};
-ghost use Rattle.curve.specs.Known.{Under};
+ghost use Rattle.model.specs.declared.entry.Entry.{Entry as EntryValue};
+ghost use Rattle.signatures.specs.Known.{Under};
 ghost use Rattle.queue.specs.Jobs.{IsEarly};
-ghost use Rattle.chain.specs.History.{own_of};
-ghost use Rattle.chain.specs.PreparedCommand.{command_of};
+ghost use Rattle.model.specs.History.{own_of};
+ghost use Rattle.model.specs.PreparedCommand.{command_of};
 ghost use Rattle.view.specs.HistoryPrefix.{count_of};
 ghost use Rattle.view.specs.Origin.{known_in};
 ghost use Rattle.view.specs.ViewState.{IsLegal, state_after};
@@ -42,10 +42,10 @@ pub(crate) use crate::published_history::new_history::{Opened, open_history};
 use crate::published_history::owed_step::Pending;
 pub(crate) use crate::published_history::refusal::Refusal;
 use crate::published_history::writer_home::WriterHome;
-use chain::{Command, Entry, PreparedCommand, Reply};
-use curve::{KeptTriple, KnownSignatures, Table};
 use hash::Id;
+use model::{Command, Entry, PreparedCommand, Reply};
 use queue::{Crew, Gate};
+use signatures::{KeptTriple, KnownSignatures, Table};
 use std::alloc::Global;
 use std::marker::{Model, PhantomData};
 use std::mem::replace;
@@ -73,7 +73,7 @@ pub(crate) struct PublishedHistory<J: Naming> {
 impl<J: Naming> Model for PublishedHistory<J> {
     ghost use Rattle.std.specs.Coded.{codes};
     ghost use Rattle.std.specs.FinSet as set;
-    ghost use Rattle.curve.specs.Triple.{triple_cmp, coded_triple};
+    ghost use Rattle.signatures.specs.Triple.{triple_cmp, coded_triple};
     ghost use Rattle.std.specs.Prelude.{◌≡◌, true, IfSome, drop};
     ghost use Rattle.std.specs.Arc.{arc_value};
     ghost use Rattle.view.specs.HistoryPrefix.{count_of};

@@ -2,7 +2,7 @@
 
 ghost use Rattle.std.specs.Prelude.{◌≡◌, IfOk, IfErr, take, drop};
 ghost use Rattle.std.specs.Option.{option_copied};
-ghost use Rattle.curve.specs.Known.{Under};
+ghost use Rattle.signatures.specs.Known.{Under};
 ghost use Rattle.view.specs.Origin.{known_in};
 ghost use Rattle.view.specs.ViewState.{IsExact, state_after};
 ghost use Rattle.node.specs.Told.{AreNext, best_in, coins_in, output_at, shown_tips};
@@ -10,9 +10,9 @@ ghost use Rattle.node.specs.Told.{AreNext, best_in, coins_in, output_at, shown_t
 use crate::answer::{Stamped, UnspentOutput};
 use crate::fault::Fault;
 use crate::seat::Seat;
-use chain::Entry;
 use coins::{Coin, CoinMap};
 use hash::Id;
+use model::Entry;
 use std::alloc::Global;
 use tree::Tip;
 use txn::OutPoint;

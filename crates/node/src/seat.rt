@@ -9,9 +9,9 @@ use crate::note::Note;
 use crate::origin::SeatToken;
 use crate::published_history::PublishedHistory;
 use crate::reader_home::ReaderHome;
-use chain::{Command, Submission};
-use curve::{KeptTriple, Table};
+use model::{Command, Submission};
 use rules::Params;
+use signatures::{KeptTriple, Table};
 use std::alloc::Global;
 use std::marker::{Model, PhantomData};
 use std::sync::Arc;
@@ -43,11 +43,11 @@ pub struct Seat<'t, J: Naming> {
 impl<'t, J: Naming> Model for Seat<'t, J> {
     ghost use Rattle.std.specs.Coded.{codes};
     ghost use Rattle.std.specs.FinSet as set;
-    ghost use Rattle.curve.specs.Triple.{triple_cmp, coded_triple};
+    ghost use Rattle.signatures.specs.Triple.{triple_cmp, coded_triple};
     ghost use Rattle.std.specs.Prelude.{◌≡◌, ◌≤◌, ◌++◌, true, take, length, map};
     ghost use Rattle.std.specs.Arc.{arc_value};
     ghost use Rattle.std.specs.Option.{option_map};
-    ghost use Rattle.chain.specs.History.{own_of};
+    ghost use Rattle.model.specs.History.{own_of};
     ghost use Rattle.view.specs.ViewState.{IsLegal};
     ghost use Rattle.node.specs.Pass.{Pass, owed_entry};
     ghost use Rattle.node.specs.inside.Seats.{IsAt};

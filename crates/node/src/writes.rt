@@ -2,14 +2,14 @@
 
 ghost use Rattle.std.specs.Prelude.{◌≡◌, ◌<◌, ℕ, true, false, length, All, IfOk, IfErr, IfSome, OnOk, OnErr};
 ghost use Rattle.std.specs.Prelude.{vec_capacity, vec_len};
-ghost use Rattle.curve.specs.Known.{Known};
+ghost use Rattle.signatures.specs.Known.{Known};
 ghost use Rattle.queue.specs.Jobs.{IsEarly};
-ghost use Rattle.chain.specs.Learnt.{IsNews};
-ghost use Rattle.chain.specs.PreparedCommand.{command_of};
-ghost use Rattle.chain.specs.declared.command.Command.{Command as CommandValue};
-ghost use Rattle.chain.specs.declared.command.Command.TheVariants as command;
+ghost use Rattle.model.specs.Learnt.{IsNews};
+ghost use Rattle.model.specs.PreparedCommand.{command_of};
+ghost use Rattle.model.specs.declared.command.Command.{Command as CommandValue};
+ghost use Rattle.model.specs.declared.command.Command.TheVariants as command;
 ghost use Rattle.view.specs.Origin.{known_in};
-ghost use Rattle.chain.specs.declared.reply.Reply.TheVariants as reply;
+ghost use Rattle.model.specs.declared.reply.Reply.TheVariants as reply;
 ghost use Rattle.node.specs.inside.Kept.{IsUndecodable};
 ghost use Rattle.node.specs.declared.fault.Fault.TheVariants as faults;
 
@@ -19,12 +19,12 @@ use crate::learnt::{Learnt, still_early};
 use crate::node::Node;
 use crate::published_history::{Crews, PublishedHistory, Refusal};
 use crate::seat::Seat;
-use chain::{
+use hash::Id;
+use model::{
     Bytes, Command, MarkReply, PreparedCommand, Reply, SharedTriple, Submission, SubmitReply,
 };
-use curve::KeptTriple;
-use hash::Id;
 use queue::{Threaded, Verdicts};
+use signatures::KeptTriple;
 use std::alloc::Global;
 use std::mem::replace;
 use std::slice::from_ref;

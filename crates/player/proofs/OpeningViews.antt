@@ -1,17 +1,17 @@
 -- A view that shows what a new core tells is exact.
 use Rattle.std.proofs.Common.{◌≡◌, ℕ, ◌<◌, [], ap, sym, ◌∙◌, subst, map, arith}
 use Rattle.std.specs.FinSet as set
-use Rattle.curve.specs.Triple.{Triples}
+use Rattle.signatures.specs.Triple.{Triples}
 use Rattle.tree.specs.Branches.{height}
 use Rattle.tree.specs.Limits.{max_blocks}
 use Rattle.block.specs.declared.block.Block.{Block}
 use Rattle.tree.specs.State.{State, opening}
 use Rattle.tree.specs.Tips.{tip_of_id}
 use Rattle.tree.specs.laws.Branches.{height-genesis}
-use Rattle.chain.specs.Regtest.{regtest}
-use Rattle.chain.specs.Settle.{active, best, tips}
-use Rattle.chain.specs.laws.Actives.{active_kept}
-use Rattle.chain.specs.laws.Steps.{opening_sound}
+use Rattle.model.specs.Regtest.{regtest}
+use Rattle.model.specs.Settle.{active, best, tips}
+use Rattle.model.specs.laws.Actives.{active_kept}
+use Rattle.model.specs.laws.Steps.{opening_sound}
 use Rattle.activate.specs.CoreState.{CoreState, opened_core}
 use Rattle.view.specs.Origin.{Origin}
 use Rattle.view.specs.ViewState.{IsExact, IsInfo, opening_view}

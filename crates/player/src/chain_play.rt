@@ -7,7 +7,7 @@ use crate::log::{Asked, Log};
 use crate::seat_calls::MOST_TRIES;
 use crate::state::{State, read, state_of};
 use anyhow::bail;
-use chain::{Bytes, Command, Reply};
+use model::{Bytes, Command, Reply};
 use reference::slow;
 use scenario::{Call, Request};
 use std::alloc::Global;

@@ -4,11 +4,11 @@
 
 ghost use Rattle.std.specs.Prelude.{◌≡◌, [], IfOk, IfSome, drop, map};
 ghost use Rattle.std.specs.Arc.{arc_value};
-ghost use Rattle.curve.specs.Triple.{Triples};
+ghost use Rattle.signatures.specs.Triple.{Triples};
 ghost use Rattle.tree.specs.Branches.{height};
 ghost use Rattle.tree.specs.Tips.{tip_of_id};
-ghost use Rattle.chain.specs.Regtest.{regtest};
-ghost use Rattle.chain.specs.Settle.{active, best, tips};
+ghost use Rattle.model.specs.Regtest.{regtest};
+ghost use Rattle.model.specs.Settle.{active, best, tips};
 ghost use Rattle.activate.specs.CoreState.{Follows};
 ghost use Rattle.view.specs.Origin.{origin};
 

@@ -7,17 +7,17 @@ use crate::inside::play_inside;
 use crate::log::{Asked, Log};
 use crate::node_play::play_node;
 use anyhow::{Context, bail};
-use curve::Table;
 use doors::{HEIGHTS, Meeting, Options};
 use journal::read_heights;
 use scenario::{Client, Definitions, Line, lines, read_clients};
-use scenarios::drawn::Drawn;
-use scenarios::table::{REGTEST, find};
+use signatures::Table;
 use std::alloc::Global;
 use std::io::{Print, Read, read_to_string};
 use std::rt::Env;
 use std::sync::Wait;
 use std::thread::Threads;
+use workloads::drawn::Drawn;
+use workloads::table::{REGTEST, find};
 
 /// The text of the list that is asked for.
 fn text_of<I: Read + Drop>(

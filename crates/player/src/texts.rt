@@ -1,8 +1,8 @@
 //! The texts of reasons and faults, each with all its forms.
 
 use block::{BlkFault, ReadFault};
-use curve::TableFault;
 use node::{Fault, OpenFault};
+use signatures::TableFault;
 use txn::Reason;
 use wire::{Memory, WireFault};
 

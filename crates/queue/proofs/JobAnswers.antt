@@ -5,8 +5,8 @@ use Rattle.std.specs.Box.{box_value}
 use Rattle.std.specs.Global.{Box}
 use Rattle.std.specs.Option.{option_map, option_and_then}
 use Rattle.std.proofs.lemmas.Option.{slice_get-map}
-use Rattle.curve.specs.Known.{Known}
-use Rattle.curve.specs.Triple.{Triple}
+use Rattle.signatures.specs.Known.{Known}
+use Rattle.signatures.specs.Triple.{Triple}
 use Rattle.interp.specs.Answer.{Answer, Says, Wants}
 use Rattle.interp.specs.Question.{Question, question_of}
 use Rattle.interp.specs.computed.Step.{verdict}

@@ -6,7 +6,7 @@ use Rattle.std.proofs.lemmas.Option.{slice_get-map, slice_get_past, slice_get_re
 use Rattle.std.proofs.lemmas.Bool.{cases_eq}
 use Rattle.txn.specs.declared.input.TxIn.{TxIn}
 use Rattle.txn.specs.declared.tx.Tx.{Tx}
-use Rattle.curve.specs.Known.{Known}
+use Rattle.signatures.specs.Known.{Known}
 use Rattle.interp.specs.computed.Step.{verdict}
 use Rattle.queue.proofs.JobAnswers.{answered-says, says-answered, slice_get-push}
 use Rattle.interp.specs.laws.KnownVerdicts.{verdict-kept}

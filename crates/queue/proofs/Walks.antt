@@ -3,8 +3,8 @@ use Rattle.std.proofs.Common.{◌≡◌, ◌≢◌, ℕ, zero, suc, ◌+◌, ◌
 use Rattle.std.specs.Prelude.{All, slice_get}
 use Rattle.std.proofs.lemmas.Bool.{cases_eq}
 use Rattle.queue.proofs.JobAnswers.{slice_get-push}
-use Rattle.curve.specs.Known.{Known, all_known}
-use Rattle.curve.specs.Triple.{Triple, Triples}
+use Rattle.signatures.specs.Known.{Known, all_known}
+use Rattle.signatures.specs.Triple.{Triple, Triples}
 use Rattle.interp.specs.Answer.{Answer, Says, Wants}
 use Rattle.interp.specs.Question.{question_of}
 use Rattle.interp.specs.declared.job.Job.{Job}

@@ -1,7 +1,7 @@
 -- What is answered of a list of verdicts: the first that is no, or what has to be found out before that.
 use Rattle.std.proofs.Common.{◌≢◌}
 use Rattle.std.specs.Prelude.{◌≡◌, ℕ, zero, suc, ◌<◌, ◌≤◌, Bool, true, false, List, [], ◌∷◌, ◌++◌, length, Option, Some, None, IfSome, Result, Ok, Err}
-use Rattle.curve.specs.Triple.{Triple}
+use Rattle.signatures.specs.Triple.{Triple}
 use Rattle.interp.specs.Answer.{Answer, Says, Wants}
 
 abbrev pub want_of : Answer Bool → List Triple

@@ -1,9 +1,9 @@
 -- Which jobs of a list are accepted, and the first one that isn't.
 use Rattle.std.specs.Prelude.{◌≡◌, ℕ, ◌<◌, pos, Bool, true, List, [], length, map, get_or, Option, Some, None, slice_get}
 use Rattle.txn.specs.declared.tx.Tx.{Tx}
-use Rattle.curve.specs.Known.{Known, all_known, verdict_in}
-use Rattle.curve.specs.laws.Growth.{Grows}
-use Rattle.curve.specs.Triple.{Triple, Triples}
+use Rattle.signatures.specs.Known.{Known, all_known, verdict_in}
+use Rattle.signatures.specs.laws.Growth.{Grows}
+use Rattle.signatures.specs.Triple.{Triple, Triples}
 use Rattle.interp.specs.declared.flags.Flags.{Flags}
 use Rattle.interp.specs.declared.job.Job.{Job}
 use Rattle.interp.specs.Answer.{Answer, Says, Wants}

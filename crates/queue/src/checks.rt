@@ -5,7 +5,7 @@ ghost use Rattle.interp.specs.Answer.{Answer, Says, Wants};
 ghost use Rattle.queue.specs.Ahead.{answer_of};
 
 use crate::verdict::Verdict;
-use curve::KeptTriple;
+use signatures::KeptTriple;
 use std::alloc::Global;
 use wire::Memory;
 

@@ -12,7 +12,7 @@ use crate::gate::Gate;
 use crate::jobs::JobList;
 use crate::judges::Judges;
 use crate::workers::{Words, work};
-use curve::{KnownSignatures, Table};
+use signatures::{KnownSignatures, Table};
 use std::alloc::Global;
 use std::sync::atomic::AtomicU64;
 use std::thread::{Threads, map_indices};

@@ -9,8 +9,8 @@ use crate::checks::Places;
 use crate::judges::Judges;
 use crate::verdict::Verdict;
 use crate::verdicts::Verdicts;
-use curve::KeptTriple;
 use interp::{Job, Unverified, verify_with};
+use signatures::KeptTriple;
 use std::alloc::Global;
 use wire::Memory;
 

@@ -1,12 +1,12 @@
 //! Who says whether signatures are valid, and how a caller is told that some aren't known.
 
 ghost use Rattle.std.specs.Prelude.{◌≡◌, ◌<◌, List, All, None, Option, Some, length, IfSome};
-ghost use Rattle.curve.specs.Triple.{Triple};
+ghost use Rattle.signatures.specs.Triple.{Triple};
 ghost use Rattle.queue.specs.FirstAnswer.{AreOfBoth};
 
 use crate::branch_wants::{are_enough, joined};
 use crate::no_answer::Undecided;
-use curve::{KeptTriple, KnownSignatures, KnowsSignatures, Table};
+use signatures::{KeptTriple, KnownSignatures, KnowsSignatures, Table};
 use wire::Memory;
 
 /// Who judges signatures, and what a call by this judge answers where it has no answer.

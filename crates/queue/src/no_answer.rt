@@ -2,7 +2,7 @@
 
 ghost use Rattle.std.specs.Prelude.{◌≡◌};
 
-use curve::KeptTriple;
+use signatures::KeptTriple;
 use std::alloc::{AllocError, AllocFailed};
 use wire::Memory;
 

@@ -1,6 +1,6 @@
 //! By what verdicts are got before they are asked for.
 
-use curve::{KnownSignatures, Table};
+use signatures::{KnownSignatures, Table};
 
 /// By what signatures are judged.
 #[derive(Clone, Copy)]

@@ -1,6 +1,6 @@
 //! What running a job comes to.
 
-use curve::KeptTriple;
+use signatures::KeptTriple;
 
 /// What is known of a job.
 #[derive(Drop)]

@@ -5,8 +5,8 @@ ghost use Rattle.std.specs.Option.{IfNone};
 
 use crate::early_jobs::EarlyJobs;
 use crate::source::Source;
-use curve::KeptTriple;
 use interp::Job;
+use signatures::KeptTriple;
 use std::marker::Model;
 
 /// The answers to early jobs by a table, or by what was found out. A clause sees what they ask, and by what they were got.
@@ -25,8 +25,8 @@ impl<'t> Model for Verdicts<'t> {
     ghost use Rattle.std.specs.Coded.{codes};
     ghost use Rattle.std.specs.FinSet as set;
     ghost use Rattle.std.specs.Prelude.{◌≡◌};
-    ghost use Rattle.curve.specs.Known.{coded_verdicts};
-    ghost use Rattle.curve.specs.Triple.{triple_cmp, coded_triple};
+    ghost use Rattle.signatures.specs.Known.{coded_verdicts};
+    ghost use Rattle.signatures.specs.Triple.{triple_cmp, coded_triple};
     ghost use Rattle.queue.specs.Jobs.{Answered, answers_to, known_of, questions};
     ghost use Rattle.queue.specs.inside.KnownAnswers.{AreTheirWants};
 

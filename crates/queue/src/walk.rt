@@ -10,7 +10,7 @@ use crate::found::Seen;
 use crate::gate::Gate;
 use crate::verdict::Verdict;
 use crate::workers::run;
-use curve::KeptTriple;
+use signatures::KeptTriple;
 use std::alloc::Global;
 use wire::Memory;
 

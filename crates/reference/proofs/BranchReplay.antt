@@ -6,7 +6,7 @@ use Rattle.std.proofs.lemmas.Bool.{cases_eq}
 use Rattle.std.proofs.lemmas.List.{length-reverse, length-map, length-append, reverse-append, drop_more, drop_all, get_or-map, get_or-reverse, take_at, take_all, drop-drop}
 use Rattle.txn.specs.declared.reason.Reason.{Reason}
 use Rattle.block.specs.declared.block.Block.{Block}
-use Rattle.curve.specs.Triple.{Triples}
+use Rattle.signatures.specs.Triple.{Triples}
 use Rattle.rules.specs.declared.params.Params.{Params}
 use Rattle.rules.specs.Params.{at}
 use Rattle.locks.specs.MedianTime.{median_of}
@@ -20,11 +20,11 @@ use Rattle.tree.specs.laws.Branches.{branch-genesis}
 use Rattle.tree.specs.laws.Parents.{parent-below, before-parent, branch-parent}
 use Rattle.reference.specs.declared.branch_replay.Trial.{Trial}
 use Rattle.reference.specs.declared.branch_replay.Trial.TheVariants.{Valid, Fails, Below}
-use Rattle.chain.specs.Rules.{Rules}
-use Rattle.chain.specs.Valid.{fault_over, fault, connects, branch_connects, first_to_fail}
-use Rattle.chain.specs.Replay.{replay}
-use Rattle.chain.specs.Regtest.{medians_of, setting_on, ledger, regtest}
-use Rattle.chain.specs.laws.Medians.{length-medians}
+use Rattle.model.specs.Rules.{Rules}
+use Rattle.model.specs.Valid.{fault_over, fault, connects, branch_connects, first_to_fail}
+use Rattle.model.specs.Replay.{replay}
+use Rattle.model.specs.Regtest.{medians_of, setting_on, ledger, regtest}
+use Rattle.model.specs.laws.Medians.{length-medians}
 use Rattle.reference.specs.inside.Replay.{medians_in, trial_after, trial_on, is_valid, is_first}
 
 -- ---- medians
@@ -174,7 +174,7 @@ module _ (params : Params) (triples : Triples) (t : Blocks Block) where
     first-parent = ap (λ (l : List ℕ). not (is_none (fault (regtest params triples) t p)) && list_all (connects (regtest params triples) t) l) (before-parent t p z h)
 
   valid-zero : (p : ℕ) → 0 ≡ p → is_valid (trial_at p) ≡ branch_connects (regtest params triples) t p
-  valid-zero p e = ap (λ (q : ℕ). is_valid (trial_at q)) (sym e) ∙ ap is_valid trial-zero ∙ sym (Rattle.chain.specs.laws.Actives.valid-genesis (regtest params triples) t) ∙ ap (branch_connects (regtest params triples) t) e
+  valid-zero p e = ap (λ (q : ℕ). is_valid (trial_at q)) (sym e) ∙ ap is_valid trial-zero ∙ sym (Rattle.model.specs.laws.Actives.valid-genesis (regtest params triples) t) ∙ ap (branch_connects (regtest params triples) t) e
 
   valid-to : (n p : ℕ) → p ≤ n → p ≤ length t → is_valid (trial_at p) ≡ branch_connects (regtest params triples) t p
   valid-to zero p m h = valid-zero p (omega arith)

@@ -6,7 +6,7 @@ use Rattle.std.proofs.lemmas.Bool.{cases_eq, eq-eqb, ne_eqb}
 use Rattle.std.proofs.lemmas.List.{length-append, length-set, reverse-append}
 use Rattle.block.specs.declared.block.Block.{Block}
 use Rattle.block.specs.Identity.{id_of}
-use Rattle.curve.specs.Triple.{Triples}
+use Rattle.signatures.specs.Triple.{Triples}
 use Rattle.rules.specs.declared.params.Params.{Params}
 use Rattle.rules.specs.Alone.{alone_rules}
 use Rattle.txn.specs.First.{first_broken}
@@ -19,10 +19,10 @@ use Rattle.tree.specs.laws.Branches.{parent_there, parent_here}
 use Rattle.reference.specs.declared.kept_block.KeptBlock.{KeptBlock}
 use Rattle.reference.specs.declared.judgement.Judgement.{Judgement}
 use Rattle.reference.specs.declared.state.Replayed.{Replayed}
-use Rattle.chain.specs.Settle.{active, on_candidate, becomes_seen, becomes_bad, settle}
-use Rattle.chain.specs.Valid.{branch_connects, first_to_fail}
-use Rattle.chain.specs.Regtest.{regtest}
-use Rattle.chain.specs.StateInvariant.{AllKept}
+use Rattle.model.specs.Settle.{active, on_candidate, becomes_seen, becomes_bad, settle}
+use Rattle.model.specs.Valid.{branch_connects, first_to_fail}
+use Rattle.model.specs.Regtest.{regtest}
+use Rattle.model.specs.StateInvariant.{AllKept}
 use Rattle.reference.specs.inside.Replay.{IsRight, IsKeptBlock, AreKeptBlocks, AreTried, AreJudgements, blocks_before, kept_of, blocks_of, first_kept, state_of_replayed, is_flagged, places_of, judgement_in, no_judgement, is_near, is_valid, is_first, any_below, trial_on}
 use Rattle.reference.proofs.BranchReplay.{trial-zero}
 use Rattle.reference.proofs.KeptBlocks.{length-blocks, blocks-push}

@@ -3,7 +3,7 @@ use Rattle.std.proofs.Common.{◌≡◌, ℕ, suc, ◌-◌, ◌<◌, ◌≤◌, 
 use Rattle.std.specs.List.{list_all}
 use Rattle.hash.specs.declared.id.Id.{Id}
 use Rattle.block.specs.declared.block.Block.{Block}
-use Rattle.curve.specs.Triple.{Triples}
+use Rattle.signatures.specs.Triple.{Triples}
 use Rattle.rules.specs.declared.params.Params.{Params}
 use Rattle.tree.specs.Branches.{Blocks, has, branch, on, height, blocks_at}
 use Rattle.tree.specs.State.{State, has_no_mark, beats}
@@ -16,12 +16,12 @@ use Rattle.tree.specs.laws.Marks.{usable_from}
 use Rattle.tree.specs.laws.Branches.{on-bounds}
 use Rattle.reference.specs.declared.judgement.Judgement.{Judgement}
 use Rattle.reference.specs.declared.state.Replayed.{Replayed}
-use Rattle.chain.specs.Rules.{Rules}
-use Rattle.chain.specs.Valid.{branch_connects, first_to_fail}
-use Rattle.chain.specs.Settle.{can_be_active, active, is_candidate, on_candidate}
-use Rattle.chain.specs.Regtest.{regtest}
+use Rattle.model.specs.Rules.{Rules}
+use Rattle.model.specs.Valid.{branch_connects, first_to_fail}
+use Rattle.model.specs.Settle.{can_be_active, active, is_candidate, on_candidate}
+use Rattle.model.specs.Regtest.{regtest}
 use Rattle.reference.specs.inside.Replay.{IsRight, AreAlone, AreJudgements, blocks_of, blocks_in, state_of_replayed, is_flagged, places_of, judgement_at, judgement_in, no_judgement, above, is_near, is_valid, is_first, any_below}
-use Rattle.chain.specs.laws.Kept.{alone-at}
+use Rattle.model.specs.laws.Kept.{alone-at}
 use Rattle.reference.proofs.KeptBlocks.{length-blocks, branch_kept, branch_later, branch_length, block-held, blocks-held}
 use Rattle.reference.proofs.Flags.{has-places, any-down, any-agree}
 use Rattle.reference.proofs.BranchReplay.{trial-valid, trial-first}

@@ -3,7 +3,7 @@ use Rattle.std.proofs.Common.{◌≡◌, ℕ, ◌<◌, Bool, true, false, cond, 
 use Rattle.std.proofs.lemmas.Bool.{eq-eqb, ne_eqb, and_parts}
 use Rattle.hash.specs.declared.id.Id.{Id}
 use Rattle.block.specs.declared.block.Block.{Block}
-use Rattle.curve.specs.Triple.{Triples}
+use Rattle.signatures.specs.Triple.{Triples}
 use Rattle.rules.specs.declared.params.Params.{Params}
 use Rattle.tree.specs.Branches.{Blocks, has, branch, blocks_at, place_of}
 use Rattle.tree.specs.State.{State, has_no_mark}
@@ -14,14 +14,14 @@ use Rattle.reference.specs.declared.kept_block.KeptBlock.{KeptBlock}
 use Rattle.reference.specs.declared.state.Replayed.{Replayed}
 use Rattle.reference.specs.declared.branch_replay.Trial.{Trial}
 use Rattle.reference.specs.declared.branch_replay.Trial.TheVariants.{Valid, Fails, Below}
-use Rattle.chain.specs.declared.reply.SubmitReply.TheVariants.{Accepted, Inconclusive}
-use Rattle.chain.specs.Rules.{Rules}
-use Rattle.chain.specs.Valid.{fault, first_to_fail}
-use Rattle.chain.specs.Settle.{active, on_candidate, becomes_bad, becomes_seen, settle}
-use Rattle.chain.specs.Submission.{submit_says, reply_by_reason, answer_added, outcome_of_added}
-use Rattle.chain.specs.Regtest.{regtest}
+use Rattle.model.specs.declared.reply.SubmitReply.TheVariants.{Accepted, Inconclusive}
+use Rattle.model.specs.Rules.{Rules}
+use Rattle.model.specs.Valid.{fault, first_to_fail}
+use Rattle.model.specs.Settle.{active, on_candidate, becomes_bad, becomes_seen, settle}
+use Rattle.model.specs.Submission.{submit_says, reply_by_reason, answer_added, outcome_of_added}
+use Rattle.model.specs.Regtest.{regtest}
 use Rattle.reference.specs.inside.Replay.{IsRight, blocks_of, state_of_replayed, trial_on, is_first, reply_by_trial}
-use Rattle.chain.specs.laws.SettledState.{active-settle, settle-blocks}
+use Rattle.model.specs.laws.SettledState.{active-settle, settle-blocks}
 use Rattle.reference.proofs.KeptBlocks.{length-blocks}
 use Rattle.reference.proofs.BranchReplay.{trial-first, trial-reason}
 

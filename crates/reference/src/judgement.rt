@@ -3,11 +3,11 @@
 ghost use Rattle.std.specs.Prelude.{◌≡◌, ◌<◌, ◌&&◌, ℕ, length, reverse, not, true, slice_index_or, IfOk};
 ghost use Rattle.std.specs.List.{list_all};
 ghost use Rattle.block.specs.declared.block.Block.{Block};
-ghost use Rattle.curve.specs.Triple.{Triples};
+ghost use Rattle.signatures.specs.Triple.{Triples};
 ghost use Rattle.rules.specs.declared.params.Params.{Params};
 ghost use Rattle.tree.specs.State.{State, rank_in, has_no_mark};
-ghost use Rattle.chain.specs.Regtest.{regtest};
-ghost use Rattle.chain.specs.Settle.{active};
+ghost use Rattle.model.specs.Regtest.{regtest};
+ghost use Rattle.model.specs.Settle.{active};
 ghost use Rattle.reference.specs.inside.Replay.{IsRight, AreJudged, AreJudgements, above, chain_rules, is_flagged, is_valid, judgement_at, judgement_in, state_of_replayed};
 
 use crate::branch_replay::{Chain, Trial};

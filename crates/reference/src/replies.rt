@@ -3,15 +3,15 @@
 
 ghost use Rattle.std.specs.Prelude.{◌≡◌, IfOk};
 ghost use Rattle.tree.specs.State.{opening};
-ghost use Rattle.chain.specs.Regtest.{regtest};
-ghost use Rattle.chain.specs.Commands.{replies_of};
+ghost use Rattle.model.specs.Regtest.{regtest};
+ghost use Rattle.model.specs.Commands.{replies_of};
 
 use crate::branch_replay::Chain;
 use crate::state::Replayed;
 use crate::step::step;
-use chain::{Command, Reply};
-use curve::Table;
+use model::{Command, Reply};
 use rules::Params;
+use signatures::Table;
 use std::alloc::Global;
 use wire::Memory;
 

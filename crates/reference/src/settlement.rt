@@ -2,7 +2,7 @@
 
 ghost use Rattle.std.specs.Prelude.{◌≡◌, ◌<◌, ℕ, ◌&&◌, ◌||◌, false, length, replicate, slice_index_or, IfOk, OnOk};
 ghost use Rattle.tree.specs.Branches.{has, on};
-ghost use Rattle.chain.specs.Settle.{active, settle};
+ghost use Rattle.model.specs.Settle.{active, settle};
 ghost use Rattle.reference.specs.inside.Replay.{AreKeptBlocks, AreJudgements, IsRight, any_below, blocks_of, chain_rules, is_flagged, is_first, is_near, is_valid, judgement_in, state_of_replayed};
 
 use crate::branch_replay::{Chain, Trial};

@@ -8,9 +8,9 @@ ghost use Rattle.tree.specs.Limits.{max_blocks};
 ghost use Rattle.tree.specs.State.{opening, with_block, with_mark, without_marks, with_call};
 ghost use Rattle.txn.specs.First.{first_broken};
 ghost use Rattle.rules.specs.Alone.{alone_rules};
-ghost use Rattle.curve.specs.Triple.{Triples};
+ghost use Rattle.signatures.specs.Triple.{Triples};
 ghost use Rattle.rules.specs.declared.params.Params.{Params};
-ghost use Rattle.chain.specs.Regtest.{regtest};
+ghost use Rattle.model.specs.Regtest.{regtest};
 ghost use Rattle.reference.specs.inside.Replay.{AreKeptBlocks, IsRight, blocks_before, blocks_of, first_kept, state_of_replayed, trial_on};
 
 use crate::branch_replay::Trial;

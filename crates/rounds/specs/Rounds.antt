@@ -1,9 +1,9 @@
 -- Rounds: what is wanted is found out, and the question is put again.
 use Rattle.std.proofs.Common.{◌≢◌}
 use Rattle.std.specs.Prelude.{◌≡◌, ℕ, ◌*◌, List, [], ◌∷◌, length, All, None, ⊤}
-use Rattle.curve.specs.Known.{Known}
-use Rattle.curve.specs.Triple.{Triple}
-use Rattle.curve.specs.laws.Growth.{Grows}
+use Rattle.signatures.specs.Known.{Known}
+use Rattle.signatures.specs.Triple.{Triple}
+use Rattle.signatures.specs.laws.Growth.{Grows}
 use Rattle.interp.specs.Limits.{max_ops}
 use Rattle.interp.specs.Question.{Question}
 use Rattle.interp.specs.declared.job.Job.{Job}

@@ -5,15 +5,15 @@ use Rattle.std.specs.Option.{option_map}
 use Rattle.hash.specs.declared.id.Id.{Id}
 use Rattle.block.specs.declared.block.Block.{Block}
 use Rattle.block.specs.BlockOfBytes.{block_of_bytes}
-use Rattle.curve.specs.Triple.{Triples}
+use Rattle.signatures.specs.Triple.{Triples}
 use Rattle.tree.specs.Branches.{on, place_of, places}
 use Rattle.tree.specs.Names.{names}
 use Rattle.tree.specs.State.{State, with_block, with_call, with_mark, without_marks}
-use Rattle.chain.specs.Regtest.{regtest}
-use Rattle.chain.specs.Settle.{on_candidate}
-use Rattle.chain.specs.Step.{Request, Submit, Invalidate, Reconsider, Precious}
-use Rattle.chain.specs.declared.command.Command.{Command}
-use Rattle.chain.specs.declared.command.Command.TheVariants as command
+use Rattle.model.specs.Regtest.{regtest}
+use Rattle.model.specs.Settle.{on_candidate}
+use Rattle.model.specs.Step.{Request, Submit, Invalidate, Reconsider, Precious}
+use Rattle.model.specs.declared.command.Command.{Command}
+use Rattle.model.specs.declared.command.Command.TheVariants as command
 use Rattle.activate.specs.CoreState.{CoreState}
 
 -- the state before blocks are tried, where the block that is named, or the submitted one's parent, is kept

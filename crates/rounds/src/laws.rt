@@ -2,14 +2,14 @@
 
 ghost use Rattle.std.specs.Prelude.{◌≤◌, ◌*◌, All, List, length};
 ghost use Rattle.txn.specs.declared.tx.Tx.{Tx};
-ghost use Rattle.curve.specs.Known.{Agrees, Known};
-ghost use Rattle.curve.specs.Triple.{Triples};
+ghost use Rattle.signatures.specs.Known.{Agrees, Known};
+ghost use Rattle.signatures.specs.Triple.{Triples};
 ghost use Rattle.interp.specs.Question.{Question};
 ghost use Rattle.interp.specs.declared.job.Job.{Job};
 ghost use Rattle.coins.specs.Coins.{Coins};
 ghost use Rattle.connect.specs.Scripts.{AreWantedByBlock};
 ghost use Rattle.connect.specs.BlockContext.{Setting};
-ghost use Rattle.chain.specs.declared.command.Command.{Command};
+ghost use Rattle.model.specs.declared.command.Command.{Command};
 ghost use Rattle.activate.specs.CoreState.{CoreState};
 ghost use Rattle.activate.specs.Wants.{AreWantedByStep};
 ghost use Rattle.rounds.specs.Rounds.{AreRounds, WantsOne, JobsWant, max_rounds};

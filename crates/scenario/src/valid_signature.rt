@@ -2,14 +2,14 @@
 
 ghost use Rattle.std.specs.Prelude.{◌≡◌, ◌<◌, ◌∷◌, [], length, OnOk, OnErr};
 ghost use Rattle.std.specs.FinSet as set;
-ghost use Rattle.curve.specs.Triple.{triple_of};
+ghost use Rattle.signatures.specs.Triple.{triple_of};
 ghost use Rattle.script.specs.Removal.{without};
 ghost use Rattle.sighash.specs.Digest.{digest_of};
 
-use curve::Table;
 use script::opcode::OP_CODESEPARATOR;
 use script::without;
 use sighash::digest;
+use signatures::Table;
 use std::alloc::Global;
 use txn::Tx;
 use wire::Memory;

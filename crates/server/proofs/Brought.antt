@@ -12,14 +12,14 @@ use Rattle.block.specs.declared.block.Block.{Block}
 use Rattle.block.specs.BlockOfBytes.{block_of_bytes}
 use Rattle.block.specs.Grammar.{header}
 use Rattle.block.specs.Identity.{id_of}
-use Rattle.chain.specs.declared.command.Command.TheVariants as command
-use Rattle.chain.specs.declared.entry.Entry.{Entry}
+use Rattle.model.specs.declared.command.Command.TheVariants as command
+use Rattle.model.specs.declared.entry.Entry.{Entry}
 use Rattle.tree.specs.Branches.{Blocks, block_at, height, id_at, place_of}
 use Rattle.tree.specs.Limits.{max_blocks}
 use Rattle.tree.specs.Names.{names}
 use Rattle.activate.specs.Lookups.{ancestor_at, ancestor_of, header_of, height_of}
-use Rattle.curve.specs.Known.{Under}
-use Rattle.chain.specs.History.{state_at}
+use Rattle.signatures.specs.Known.{Under}
+use Rattle.model.specs.History.{state_at}
 use Rattle.view.specs.Origin.{Origin, known_in, machine}
 use Rattle.node.specs.Pass.{IsLonger, IsRead, Pass}
 use Rattle.node.specs.Told.{best_in}

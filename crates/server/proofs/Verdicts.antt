@@ -2,9 +2,9 @@
 use Rattle.std.specs.Prelude.{◌⊎◌, Bool, IsTrue, MatchOption, Option, None, Some, Ok, slice_get}
 use Rattle.std.proofs.Common.{◌≡◌, ◌∙◌, ℕ, List, [], ◌∷◌, ◌++◌, refl, ap, sym, subst, inl, inr, arith}
 use Rattle.std.proofs.lemmas.Option.{slice_get_past}
-use Rattle.curve.specs.Lines.{IsReadable, Spells, is_skipped, words}
-use Rattle.curve.specs.Triple.{Triple}
-use Rattle.curve.proofs.Tables.{is_skipped-spells}
+use Rattle.signatures.specs.Lines.{IsReadable, Spells, is_skipped, words}
+use Rattle.signatures.specs.Triple.{Triple}
+use Rattle.signatures.proofs.Tables.{is_skipped-spells}
 use Rattle.node.specs.Pass.{Pass}
 use Rattle.node.specs.Runs.{IsLearnAllAnswer}
 use Rattle.server.specs.inside.Verdicts.{AreLearnt, AreSpelled, IsSpelled}

@@ -1,7 +1,7 @@
 //! Signatures by need: what a call wants, and verdicts that are told.
 
 ghost use Rattle.std.specs.Prelude.{◌≡◌, length, slice_get, IfOk};
-ghost use Rattle.curve.specs.Lines.{lines};
+ghost use Rattle.signatures.specs.Lines.{lines};
 ghost use Rattle.serving.specs.Answers.{wants_members};
 ghost use Rattle.server.specs.inside.Answers.{IsLearnTold, IsReadLine, TellsLearnt};
 ghost use Rattle.server.specs.inside.Verdicts.{AreLearnt, AreSpelled, IsSpelled};
@@ -10,9 +10,9 @@ use crate::answers::refused;
 use crate::turn::Blank;
 use console::fault::Fault;
 use console::report::Clients;
-use curve::{TableFault, read_line};
 use node::{Command, Entry, KeptTriple, Naming, Node, Seat};
 use serving::Answer;
+use signatures::{TableFault, read_line};
 use std::alloc::{AllocError, Global};
 use std::sync::Wait;
 use std::thread::Threads;

@@ -1,7 +1,7 @@
 //! Submissions, and what their replies would be.
 
 ghost use Rattle.std.specs.Prelude.{◌≡◌, IfErr, IfOk};
-ghost use Rattle.chain.specs.declared.command.Command.TheVariants as command;
+ghost use Rattle.model.specs.declared.command.Command.TheVariants as command;
 ghost use Rattle.node.specs.Calls.{IsSubmitAnswer, IsWriteFault};
 ghost use Rattle.server.specs.inside.Answers.{IsJudgeTold, IsSubmitTold, IsTaken};
 

@@ -4,9 +4,9 @@ ghost use Rattle.std.specs.Prelude.{◌≡◌};
 
 use console::options::{NAME, VERSION};
 use console::report::Clients;
-use curve::Table;
 use node::Params;
 use serving::Info;
+use signatures::Table;
 use std::sync::Arc;
 
 /// The names of the seats in a journal.

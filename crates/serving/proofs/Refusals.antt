@@ -9,7 +9,7 @@ use Rattle.std.proofs.lemmas.List.{length-append}
 use Rattle.json.specs.Json.{Json}
 use Rattle.hash.specs.declared.id.Id.{Id}
 use Rattle.txn.specs.declared.outpoint.OutPoint.{OutPoint}
-use Rattle.curve.specs.Lines.{IsReadable, IsFirstBad}
+use Rattle.signatures.specs.Lines.{IsReadable, IsFirstBad}
 use Rattle.json.specs.Find.{get, as_str}
 use Rattle.serving.specs.Requests.{param, IsNumber, IsSeat, AreBytes, AreLines, IsId, IsAbove, AreOutPoint, IsCall, IsRequest, IsAsked, IsInTurn, method_name}
 use Rattle.serving.specs.declared.request.Asked.TheVariants as asked

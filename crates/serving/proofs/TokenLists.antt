@@ -7,7 +7,7 @@ use Rattle.json.specs.Json.{Members, no_members}
 use Rattle.json.specs.Token.{Token}
 use Rattle.json.specs.Tree.{items_tokens}
 use Rattle.json.specs.Written.{Written}
-use Rattle.curve.specs.Triple.{Triple}
+use Rattle.signatures.specs.Triple.{Triple}
 use Rattle.tree.specs.declared.tip.Tip.{Tip}
 use Rattle.serving.specs.Answers.{Adds, members, now_of, coin_items, line_items, spent_items, tip_items, step_items}
 use Rattle.serving.specs.declared.answer.CoinAt.{CoinAt}

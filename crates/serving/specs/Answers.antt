@@ -9,7 +9,7 @@ use Rattle.json.specs.Tree.{json_tokens}
 use Rattle.json.specs.Print.{print}
 use Rattle.json.specs.Written.{Written}
 use Rattle.hash.specs.Id.{hex_of_id}
-use Rattle.curve.specs.Triple.{Triple}
+use Rattle.signatures.specs.Triple.{Triple}
 use Rattle.tree.specs.declared.tip.Tip.{Tip}
 use Rattle.tree.specs.declared.tip.Status.{Status}
 use Rattle.tree.specs.declared.tip.Status.TheVariants.{Active, Invalid, ValidFork, ValidHeaders}

@@ -9,7 +9,7 @@ use Rattle.json.specs.Json.{Json, null, boolean, number, string, array, object, 
 use Rattle.json.specs.Find.{get, as_str, as_number}
 use Rattle.hash.specs.declared.id.Id.{Id}
 use Rattle.txn.specs.declared.outpoint.OutPoint.{OutPoint}
-use Rattle.curve.specs.Lines.{lines, IsReadable}
+use Rattle.signatures.specs.Lines.{lines, IsReadable}
 use Rattle.serving.specs.Answers.{id_json}
 use Rattle.serving.specs.declared.method.Method.{Method}
 use Rattle.serving.specs.declared.method.Method.TheVariants as method

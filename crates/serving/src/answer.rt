@@ -11,8 +11,8 @@ ghost use Rattle.serving.specs.inside.Front.{coin_tokens, line_tokens, spent_tok
 
 use crate::object::Object;
 use crate::triple_line::triple_line;
-use curve::KeptTriple;
 use hash::Id;
+use signatures::KeptTriple;
 use std::alloc::{AllocError, Global};
 use tree::{Status, Tip};
 

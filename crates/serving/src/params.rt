@@ -2,7 +2,7 @@
 
 ghost use Rattle.std.specs.Prelude.{◌≡◌, ◌⊎◌, ℕ, List, Option, option_map, IfOk, IfErr, OnOk};
 ghost use Rattle.std.specs.List.{All};
-ghost use Rattle.curve.specs.Lines.{lines, IsFaultOf, IsReadable};
+ghost use Rattle.signatures.specs.Lines.{lines, IsFaultOf, IsReadable};
 ghost use Rattle.json.specs.Value.{value_view};
 ghost use Rattle.hash.specs.declared.id.Id.{Id as AnyId};
 ghost use Rattle.txn.specs.declared.outpoint.OutPoint.{OutPoint as AnyOutPoint};
@@ -11,10 +11,10 @@ ghost use Rattle.serving.specs.inside.Given.{given, IsParam};
 ghost use Rattle.serving.specs.declared.refusal.Refusal.TheVariants as refusals;
 
 use crate::refusal::Refusal;
-use curve::{TableFault, read_line};
 use hash::Id;
 use hex::FromHexError;
 use json::Value;
+use signatures::{TableFault, read_line};
 use std::alloc::Global;
 use txn::OutPoint;
 

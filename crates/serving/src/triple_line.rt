@@ -4,7 +4,7 @@ ghost use Rattle.std.specs.Prelude.{◌≡◌, IfOk};
 ghost use Rattle.std.specs.String.{string_bytes};
 ghost use Rattle.serving.specs.Answers.{triple_line, word};
 
-use curve::KeptTriple;
+use signatures::KeptTriple;
 use std::alloc::{AllocError, Global};
 
 /// The three words of a table's line.

@@ -3,10 +3,10 @@
 use block::{Block, GENESIS, read};
 use coins::{Base, Cache, Coin, CoinMap};
 use connect::{BlockWithIds, Context, Env, connect};
-use curve::Table;
 use hash::Id;
 use queue::{Alone, Open};
 use rules::{Params, block_alone_with};
+use signatures::Table;
 use std::alloc::Global;
 use std::test::*;
 use txn::{OutPoint, Reason, Script, ids};

@@ -1,15 +1,15 @@
 //! Verdicts got before.
 
 ghost use Rattle.std.specs.Prelude.{◌≡◌, ◌<◌, ◌≤◌, ◌^◌, length, All, IsTrue};
-ghost use Rattle.curve.specs.Known.{all_known};
+ghost use Rattle.signatures.specs.Known.{all_known};
 ghost use Rattle.queue.specs.Jobs.{HasInput, known_then};
 
-use curve::Table;
 use hash::Id;
 use interp::{Flags, Job};
 use queue::{
     Alone, Crew, EarlyJobs, Gate, Runs, Source, Threaded, Verdicts, check_early, first_failure,
 };
+use signatures::Table;
 use std::alloc::{AllocError, Global};
 use std::sync::atomic::AtomicU64;
 use std::sync::atomic::Ordering::SeqCst;

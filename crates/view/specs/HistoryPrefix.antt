@@ -1,7 +1,7 @@
 -- Beginnings of the one history, and the rule of the word that counts its entries.
 use Rattle.std.specs.Prelude.{◌≡◌, true, List, [], ◌∷◌, length}
 use Rattle.logbook.specs.Pages.{Book, Cell, Named}
-use Rattle.chain.specs.declared.entry.Entry.{Entry}
+use Rattle.model.specs.declared.entry.Entry.{Entry}
 
 -- which history it is, and a beginning of it
 pub record Beginning : Type 0 where

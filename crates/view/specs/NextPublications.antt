@@ -1,11 +1,11 @@
 -- Which publications may come after a view.
 use Rattle.std.specs.Prelude.{◌≡◌, ◌<◌, true, false, List, [], ◌∷◌, ◌++◌, Some, None}
-use Rattle.curve.specs.Triple.{Triples}
-use Rattle.curve.specs.Known.{Under}
+use Rattle.signatures.specs.Triple.{Triples}
+use Rattle.signatures.specs.Known.{Under}
 use Rattle.coins.specs.Changes.{AreChanges}
 use Rattle.tree.specs.Limits.{max_blocks}
-use Rattle.chain.specs.declared.entry.Entry.{Entry}
-use Rattle.chain.specs.History.{entry_of}
+use Rattle.model.specs.declared.entry.Entry.{Entry}
+use Rattle.model.specs.History.{entry_of}
 use Rattle.view.specs.declared.publication.Publication.{Publication}
 use Rattle.view.specs.Origin.{known_in}
 use Rattle.view.specs.ViewState.{ViewState, IsInfo, IsLegal, coins_after, after_publication}

@@ -1,13 +1,13 @@
 -- What a history is of, what is known of signatures after it, and its chainstate.
 use Rattle.std.specs.Prelude.{ℕ, List, Option, Some, None}
 use Rattle.logbook.specs.Pages.{Book}
-use Rattle.curve.specs.Triple.{Triples}
-use Rattle.curve.specs.Known.{Known}
+use Rattle.signatures.specs.Triple.{Triples}
+use Rattle.signatures.specs.Known.{Known}
 use Rattle.rules.specs.declared.params.Params.{Params}
-use Rattle.chain.specs.declared.entry.Entry.{Entry}
-use Rattle.chain.specs.Machine.{Machine}
-use Rattle.chain.specs.Chainstate.{chainstate}
-use Rattle.chain.specs.Learnt.{known_after}
+use Rattle.model.specs.declared.entry.Entry.{Entry}
+use Rattle.model.specs.Machine.{Machine}
+use Rattle.model.specs.Chainstate.{chainstate}
+use Rattle.model.specs.Learnt.{known_after}
 
 -- the book that the history is in, the heights of soft forks, the table of all valid signatures, if there is one, and how
 -- many seats there are

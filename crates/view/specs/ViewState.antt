@@ -3,20 +3,20 @@ use Rattle.std.specs.Prelude.{◌≡◌, ◌<◌, ◌-◌, if◌then◌else◌, 
 use Rattle.std.specs.Option.{option_to_list}
 use Rattle.std.specs.FinMap as coin_map
 use Rattle.block.specs.declared.block.Block.{Block}
-use Rattle.curve.specs.Triple.{Triples}
-use Rattle.curve.specs.Known.{Under}
+use Rattle.signatures.specs.Triple.{Triples}
+use Rattle.signatures.specs.Known.{Under}
 use Rattle.coins.specs.Coins.{Coins}
 use Rattle.coins.specs.Changes.{after_changes}
 use Rattle.tree.specs.Branches.{height}
 use Rattle.tree.specs.Limits.{max_blocks}
 use Rattle.tree.specs.State.{State}
 use Rattle.tree.specs.Tips.{tip_of_id}
-use Rattle.chain.specs.declared.entry.Entry.{Entry}
-use Rattle.chain.specs.History.{Legal, state_after_entries}
-use Rattle.chain.specs.Learnt.{AreNews}
-use Rattle.chain.specs.Regtest.{ledger, regtest}
-use Rattle.chain.specs.Replay.{coins}
-use Rattle.chain.specs.Settle.{active}
+use Rattle.model.specs.declared.entry.Entry.{Entry}
+use Rattle.model.specs.History.{Legal, state_after_entries}
+use Rattle.model.specs.Learnt.{AreNews}
+use Rattle.model.specs.Regtest.{ledger, regtest}
+use Rattle.model.specs.Replay.{coins}
+use Rattle.model.specs.Settle.{active}
 use Rattle.view.specs.Origin.{Origin, known_in, machine}
 use Rattle.view.specs.declared.chain_info.ChainInfo.{ChainInfo}
 use Rattle.view.specs.declared.publication.Publication.{Publication}

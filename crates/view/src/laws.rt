@@ -2,7 +2,7 @@
 
 ghost use Rattle.std.specs.Prelude.{List, [], ◌<◌};
 ghost use mathlib.Core.List.{IsPrefix};
-ghost use Rattle.curve.specs.Known.{Under};
+ghost use Rattle.signatures.specs.Known.{Under};
 ghost use Rattle.tree.specs.Limits.{max_blocks};
 ghost use Rattle.view.specs.NextPublications.{AllFollow};
 ghost use Rattle.view.specs.Origin.{Origin, known_in};

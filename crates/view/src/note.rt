@@ -5,8 +5,8 @@ ghost use mathlib.Core.List.{IsPrefix};
 ghost use Rattle.view.specs.HistoryPrefix.{count_of};
 ghost use Rattle.view.specs.inside.NextEntry.{IsShorter};
 
-use chain::Entry;
 use logbook::{Gain, Offer, Plain, Play, Rule, Seen, Start, Word};
+use model::Entry;
 use std::marker::Model;
 
 /// The rule of the history: one word counts its entries. No value of it is made.

@@ -1,13 +1,13 @@
 //! What a reader reads from the view that it has entered.
 
 ghost use Rattle.std.specs.Prelude.{◌≡◌, ◌<◌, IfSome, MatchOption, None, Some, length, map};
-ghost use Rattle.chain.specs.Regtest.{regtest};
-ghost use Rattle.chain.specs.Chainstate.{confirmations};
-ghost use Rattle.chain.specs.Settle.{active};
+ghost use Rattle.model.specs.Regtest.{regtest};
+ghost use Rattle.model.specs.Chainstate.{confirmations};
+ghost use Rattle.model.specs.Settle.{active};
 ghost use Rattle.tree.specs.Branches.{height};
 ghost use Rattle.tree.specs.Limits.{max_blocks};
 ghost use Rattle.tree.specs.Tips.{tip_of_id};
-ghost use Rattle.curve.specs.Known.{Under};
+ghost use Rattle.signatures.specs.Known.{Under};
 ghost use Rattle.view.specs.Origin.{known_in, machine};
 ghost use Rattle.view.specs.ViewState.{IsExact, state_after};
 

@@ -2,7 +2,7 @@
 
 ghost use Rattle.std.specs.Prelude.{◌≡◌, IfOk};
 
-use chain::Entry;
+use model::Entry;
 use std::alloc::{AllocError, Global};
 use std::marker::Model;
 use std::sync::Arc;
@@ -16,7 +16,7 @@ pub struct SharedEntry {
 
 impl Model for SharedEntry {
     ghost use Rattle.std.specs.Arc.{arc_value};
-    ghost use Rattle.chain.specs.declared.entry.Entry.{Entry};
+    ghost use Rattle.model.specs.declared.entry.Entry.{Entry};
 
     ghost Value = { Entry };
 

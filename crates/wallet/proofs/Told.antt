@@ -1,7 +1,7 @@
 -- What is seen after a note was told is no shorter than the note.
 use Rattle.std.proofs.Common.{ℕ, ◌≤◌, List, length, inl, inr, ap, sym, ◌∙◌, arith, length-append}
 use mathlib.Core.List.{IsPrefix}
-use Rattle.chain.specs.declared.entry.Entry.{Entry}
+use Rattle.model.specs.declared.entry.Entry.{Entry}
 use Rattle.node.specs.Pass.{IsLonger}
 
 prefix_length : (xs ys : List Entry) → IsPrefix xs ys → length xs ≤ length ys

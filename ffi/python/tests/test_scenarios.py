@@ -14,7 +14,7 @@ from wakotehu.encoding import GENESIS, double_sha, read_block
 ROOT = os.path.realpath(os.path.join(os.path.dirname(__file__), "..", "..", ".."))
 #: The program: WAKOTEHU_PROGRAM, or where `./build` and `rt ci` leave it.
 PROGRAM = os.environ.get("WAKOTEHU_PROGRAM", f"{ROOT}/crates/regchain/out/regchain")
-TABLE = [f"{ROOT}/crates/scenarios/src/table/{name}.rt" for name in ("branches", "spends")]
+TABLE = [f"{ROOT}/crates/workloads/src/table/{name}.rt" for name in ("branches", "spends")]
 SCENARIO = re.compile(
     r'pub const (\w+): Scenario = Scenario {\s*name: "[^"]*",\s*heights: (\w+|"[^"]*"),'
     r'\s*definitions: (\w+|"[^"]*"),\s*told: "([^"]*)",\s*};'

@@ -1,4 +1,4 @@
-"""The table of scenarios (crates/scenarios), as lists for both: the blocks that it defines, by the bytes that regchain makes."""
+"""The table of scenarios (crates/workloads), as lists for both: the blocks that it defines, by the bytes that regchain makes."""
 
 import subprocess
 import tempfile

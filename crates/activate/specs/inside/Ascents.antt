@@ -6,14 +6,14 @@ use Rattle.coins.specs.declared.coin.Coin.{Coin}
 use Rattle.coins.specs.Coins.{Coins, Layer}
 use Rattle.tree.specs.Branches.{Blocks, on}
 use Rattle.tree.specs.laws.Above.{above}
-use Rattle.chain.specs.Rules.{Rules}
-use Rattle.chain.specs.Valid.{branch_connects}
-use Rattle.chain.specs.Regtest.{medians_of}
+use Rattle.model.specs.Rules.{Rules}
+use Rattle.model.specs.Valid.{branch_connects}
+use Rattle.model.specs.Regtest.{medians_of}
 use Rattle.activate.specs.CoreState.{branch_blocks, coins_after}
 use Rattle.activate.specs.Lookups.{undo_at}
 use Rattle.activate.specs.Wants.{AreWantedAt}
-use Rattle.curve.specs.Known.{Known}
-use Rattle.curve.specs.Triple.{Triple}
+use Rattle.signatures.specs.Known.{Known}
+use Rattle.signatures.specs.Triple.{Triple}
 use Rattle.queue.specs.FirstAnswer.{AreOfBoth}
 use Rattle.rules.specs.declared.params.Params.{Params}
 

@@ -3,7 +3,7 @@ use Rattle.std.specs.Prelude.{◌≡◌, ℕ, suc, List, [], ◌∷◌, length, 
 use Rattle.block.specs.declared.block.Block.{Block}
 use Rattle.coins.specs.declared.coin.Coin.{Coin}
 use Rattle.tree.specs.Branches.{Blocks, branch, height}
-use Rattle.chain.specs.Regtest.{medians_of}
+use Rattle.model.specs.Regtest.{medians_of}
 use Rattle.activate.specs.CoreState.{branch_blocks, most_undo}
 use Rattle.activate.specs.Lookups.{undo_at}
 

@@ -15,17 +15,17 @@ use Rattle.activate.specs.declared.path.Reorganisation.{Reorganisation}
 use Rattle.activate.specs.declared.path.FailedTry.{FailedTry}
 use Rattle.activate.specs.declared.path.Attempt.{Attempt}
 use Rattle.activate.specs.declared.path.Attempt.TheVariants.{Succeeds, Fails}
-use Rattle.chain.specs.Rules.{Rules}
-use Rattle.chain.specs.Valid.{fault, branch_connects}
-use Rattle.chain.specs.Faults.{IsFirstFault}
+use Rattle.model.specs.Rules.{Rules}
+use Rattle.model.specs.Valid.{fault, branch_connects}
+use Rattle.model.specs.Faults.{IsFirstFault}
 use Rattle.activate.specs.CoreState.{coins_after}
-use Rattle.chain.specs.StateInvariant.{AllKept}
+use Rattle.model.specs.StateInvariant.{AllKept}
 use Rattle.activate.specs.declared.path.ActiveBranch.{ActiveBranch}
 use Rattle.activate.specs.Lookups.{undo_at}
 use Rattle.activate.specs.inside.Kept.{IsBranch}
 use Rattle.activate.specs.Wants.{AreWantedAt}
-use Rattle.curve.specs.Known.{Known}
-use Rattle.curve.specs.Triple.{Triple}
+use Rattle.signatures.specs.Known.{Known}
+use Rattle.signatures.specs.Triple.{Triple}
 use Rattle.rules.specs.declared.params.Params.{Params}
 
 -- the block at a place was connected to the coins of its parent's branch

@@ -9,8 +9,8 @@ use Rattle.tree.specs.State.{State, has_no_mark, with_block, with_call}
 use Rattle.tree.specs.Nodes.{AreMarks, CanKeep, laid}
 use Rattle.tree.specs.Sound.{IsBest}
 use Rattle.tree.specs.laws.Sets.{InOrder}
-use Rattle.chain.specs.declared.command.Command.{Command}
-use Rattle.chain.specs.declared.command.Command.TheVariants as command
+use Rattle.model.specs.declared.command.Command.{Command}
+use Rattle.model.specs.declared.command.Command.TheVariants as command
 use Rattle.activate.specs.declared.path.ActiveBranch.{ActiveBranch}
 use Rattle.activate.specs.declared.path.Attempt.{Attempt}
 use Rattle.activate.specs.declared.plan.Prepared.{Prepared}
@@ -19,18 +19,18 @@ use Rattle.activate.specs.declared.plan.Edit.{Edit}
 use Rattle.activate.specs.declared.plan.Edit.TheVariants.{Leave, Keep, Call, Remark}
 use Rattle.activate.specs.declared.plan.Completion.{Completion}
 use Rattle.activate.specs.declared.plan.Completion.TheVariants.{Nothing, Flag, Activate}
-use Rattle.chain.specs.declared.reply.Reply.{Reply}
-use Rattle.chain.specs.declared.reply.SubmitReply.{SubmitReply}
-use Rattle.chain.specs.declared.reply.SubmitReply.TheVariants.{Inconclusive, Rejected}
+use Rattle.model.specs.declared.reply.Reply.{Reply}
+use Rattle.model.specs.declared.reply.SubmitReply.{SubmitReply}
+use Rattle.model.specs.declared.reply.SubmitReply.TheVariants.{Inconclusive, Rejected}
 use Rattle.activate.specs.declared.path.FailedTry.{FailedTry}
 use Rattle.activate.specs.declared.path.BranchPath.{BranchPath}
-use Rattle.chain.specs.Rules.{Rules}
-use Rattle.chain.specs.Valid.{branch_connects}
-use Rattle.chain.specs.Settle.{active, on_candidate, settle}
-use Rattle.chain.specs.Try.{state_after_try}
-use Rattle.chain.specs.StateInvariant.{AllKept}
-use Rattle.chain.specs.Commands.{outcome}
-use Rattle.chain.specs.Submission.{Outcome, answer_added}
+use Rattle.model.specs.Rules.{Rules}
+use Rattle.model.specs.Valid.{branch_connects}
+use Rattle.model.specs.Settle.{active, on_candidate, settle}
+use Rattle.model.specs.Try.{state_after_try}
+use Rattle.model.specs.StateInvariant.{AllKept}
+use Rattle.model.specs.Commands.{outcome}
+use Rattle.model.specs.Submission.{Outcome, answer_added}
 use Rattle.activate.specs.CoreState.{CoreState, coins_of, lesser_of, most_undo}
 use Rattle.activate.specs.Lookups.{undo_at}
 use Rattle.activate.specs.inside.Paths.{FailsAt, IsAttempt, IsPath}

@@ -2,7 +2,7 @@
 use Rattle.std.proofs.Common.{◌≡◌, ℕ, ◌<◌, ◌≤◌, true, List, length, ap, ◌∙◌, sym}
 use Rattle.hash.specs.declared.id.Id.{Id}
 use Rattle.block.specs.declared.block.Block.{Block}
-use Rattle.curve.specs.Triple.{Triples}
+use Rattle.signatures.specs.Triple.{Triples}
 use Rattle.coins.specs.declared.coin.Coin.{Coin}
 use Rattle.coins.specs.Coins.{Coins}
 use Rattle.rules.specs.declared.params.Params.{Params}
@@ -11,14 +11,14 @@ use Rattle.connect.specs.Turns.{effect, undo_of}
 use Rattle.connect.specs.ConnectedBlock.{IsConnected}
 use Rattle.tree.specs.Branches.{Blocks, branch, height, parent_at, block_at, blocks_at}
 use Rattle.tree.specs.Names.{names}
-use Rattle.chain.specs.Rules.{Rules}
-use Rattle.chain.specs.Valid.{connects}
-use Rattle.chain.specs.Replay.{coins_at}
-use Rattle.chain.specs.Regtest.{setting_on, ledger, regtest}
-use Rattle.chain.specs.StateInvariant.{AllKept}
-use Rattle.chain.specs.laws.Bound.{rules_kept}
-use Rattle.chain.specs.laws.Coins.{length-blocks, length-older, step-up, connects-parent}
-use Rattle.chain.specs.laws.Kept.{alone-at}
+use Rattle.model.specs.Rules.{Rules}
+use Rattle.model.specs.Valid.{connects}
+use Rattle.model.specs.Replay.{coins_at}
+use Rattle.model.specs.Regtest.{setting_on, ledger, regtest}
+use Rattle.model.specs.StateInvariant.{AllKept}
+use Rattle.model.specs.laws.Bound.{rules_kept}
+use Rattle.model.specs.laws.Coins.{length-blocks, length-older, step-up, connects-parent}
+use Rattle.model.specs.laws.Kept.{alone-at}
 
 module _ (params : Params) (triples : Triples) (t : Blocks Block) where
   abbrev r : Rules Block Id

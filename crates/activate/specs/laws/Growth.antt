@@ -13,8 +13,8 @@ use Rattle.tree.specs.laws.Sets.{has_here, has_there}
 use Rattle.tree.specs.laws.Branches.{branch_there, height_here, height_there, parent_here, parent_there, parent-genesis}
 use Rattle.tree.specs.laws.Parents.{parent-kept}
 use Rattle.tree.specs.laws.AddedBlock.{branch_within, block_there, block_here, blocks-old}
-use Rattle.chain.specs.Replay.{replay}
-use Rattle.chain.specs.Regtest.{medians_of, ledger}
+use Rattle.model.specs.Replay.{replay}
+use Rattle.model.specs.Regtest.{medians_of, ledger}
 use Rattle.activate.specs.CoreState.{branch_blocks}
 use Rattle.activate.specs.Lookups.{undo_at}
 use Rattle.activate.specs.inside.Kept.{highest_undo, IsBranch}

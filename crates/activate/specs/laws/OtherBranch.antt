@@ -12,7 +12,7 @@ use Rattle.tree.specs.laws.Parents.{branch-parent, climb}
 use Rattle.tree.specs.laws.Sets.{has_there}
 use Rattle.tree.specs.laws.Above.{above, above-rest}
 use Rattle.activate.specs.declared.path.BranchPath.{BranchPath}
-use Rattle.chain.specs.Regtest.{medians_of}
+use Rattle.model.specs.Regtest.{medians_of}
 use Rattle.activate.specs.CoreState.{branch_blocks, most_undo}
 use Rattle.activate.specs.Lookups.{undo_at}
 use Rattle.activate.specs.inside.Kept.{highest_undo, IsBranch}

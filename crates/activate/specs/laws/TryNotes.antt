@@ -8,11 +8,11 @@ use Rattle.tree.specs.laws.Sets.{InOrder, same_tests, filter_agree, joined_agree
 use Rattle.tree.specs.laws.Branches.{on-bounds, on-itself, on_trans, on_chain}
 use Rattle.tree.specs.laws.Parents.{parent-kept, on-parent, on-rest}
 use Rattle.tree.specs.laws.Above.{above, above-rest, OnWay, IsShared}
-use Rattle.chain.specs.Rules.{Rules}
-use Rattle.chain.specs.Valid.{branch_connects, first_to_fail}
-use Rattle.chain.specs.Faults.{IsFirstFault}
-use Rattle.chain.specs.Try.{fails_on, passes_on, state_after_try}
-use Rattle.chain.specs.laws.Candidates.{valid_from, valid_below, never_fails, below_first, same_first}
+use Rattle.model.specs.Rules.{Rules}
+use Rattle.model.specs.Valid.{branch_connects, first_to_fail}
+use Rattle.model.specs.Faults.{IsFirstFault}
+use Rattle.model.specs.Try.{fails_on, passes_on, state_after_try}
+use Rattle.model.specs.laws.Candidates.{valid_from, valid_below, never_fails, below_first, same_first}
 
 -- ---- sets
 

@@ -7,7 +7,7 @@ use Rattle.std.proofs.lemmas.List.{length-map, length-reverse, length-take, take
 use Rattle.txn.specs.declared.reason.Reason.{Reason}
 use Rattle.hash.specs.declared.id.Id.{Id}
 use Rattle.block.specs.declared.block.Block.{Block}
-use Rattle.curve.specs.Triple.{Triples}
+use Rattle.signatures.specs.Triple.{Triples}
 use Rattle.coins.specs.Coins.{Coins}
 use Rattle.rules.specs.declared.params.Params.{Params}
 use Rattle.rules.specs.Params.{at}
@@ -22,17 +22,17 @@ use Rattle.tree.specs.laws.Branches.{branch_head, on-bounds}
 use Rattle.tree.specs.laws.Parents.{parent-kept, before-parent, branch-parent, height-parent, climb}
 use Rattle.tree.specs.laws.Walks.{has_at}
 use Rattle.tree.specs.laws.Above.{above, above-end, above-step, above-rest, above-part, OnWay}
-use Rattle.chain.specs.Rules.{Rules}
-use Rattle.chain.specs.Valid.{fault, connects, branch_connects, first_to_fail}
-use Rattle.chain.specs.StateInvariant.{AllKept}
-use Rattle.chain.specs.laws.Medians.{length-medians}
-use Rattle.chain.specs.Regtest.{medians_of, setting_on, ledger, regtest}
+use Rattle.model.specs.Rules.{Rules}
+use Rattle.model.specs.Valid.{fault, connects, branch_connects, first_to_fail}
+use Rattle.model.specs.StateInvariant.{AllKept}
+use Rattle.model.specs.laws.Medians.{length-medians}
+use Rattle.model.specs.Regtest.{medians_of, setting_on, ledger, regtest}
 use Rattle.activate.specs.CoreState.{branch_blocks, coins_after}
 use Rattle.activate.specs.Lookups.{undo_at}
 use Rattle.activate.specs.inside.Paths.{AreConnected}
 use Rattle.activate.specs.inside.Ascents.{top_of, LeadsUp}
-use Rattle.chain.specs.laws.Candidates.{valid_gives}
-use Rattle.chain.specs.laws.Coins.{length-blocks, length-older, step-up, fault-parent}
+use Rattle.model.specs.laws.Candidates.{valid_gives}
+use Rattle.model.specs.laws.Coins.{length-blocks, length-older, step-up, fault-parent}
 use Rattle.activate.specs.laws.Fork.{setting_at, connected-at}
 
 -- ---- the place of the next block

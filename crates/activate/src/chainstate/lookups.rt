@@ -1,9 +1,9 @@
 //! What is asked of a chainstate's blocks, by their ids.
 
 ghost use Rattle.std.specs.Prelude.{◌≡◌, ◌≤◌, IfOk, IfSome};
-ghost use Rattle.curve.specs.Triple.{Triples};
+ghost use Rattle.signatures.specs.Triple.{Triples};
 ghost use Rattle.tree.specs.Limits.{max_blocks};
-ghost use Rattle.chain.specs.Regtest.{regtest};
+ghost use Rattle.model.specs.Regtest.{regtest};
 ghost use Rattle.activate.specs.CoreState.{IsChainstate};
 ghost use Rattle.activate.specs.Lookups.{active_id, ancestor_of, confirmations, fork_of, header_of, height_of, spent_by};
 

@@ -3,11 +3,11 @@
 ghost use Rattle.std.specs.Prelude.{◌≡◌, ◌≤◌, IfOk, OnErr, OnOk, length, map, reverse};
 ghost use Rattle.hash.specs.declared.id.Id.{Id};
 ghost use Rattle.block.specs.declared.block.Block.{Block};
-ghost use Rattle.chain.specs.Rules.{Rules};
+ghost use Rattle.model.specs.Rules.{Rules};
 ghost use Rattle.activate.specs.inside.Preparation.{undo_after, CanActivate, CanEdit, CanFinish, IsReady, core_after_activation, core_after_commit, core_after_finish, core_with_block, edited};
-ghost use Rattle.curve.specs.Triple.{Triples};
+ghost use Rattle.signatures.specs.Triple.{Triples};
 ghost use Rattle.tree.specs.Nodes.{CanKeep};
-ghost use Rattle.chain.specs.Regtest.{regtest};
+ghost use Rattle.model.specs.Regtest.{regtest};
 ghost use Rattle.activate.specs.Lookups.{undo_at};
 ghost use Rattle.activate.specs.inside.Paths.{IsPath};
 
@@ -17,8 +17,8 @@ use crate::new_undo::NewUndo;
 use crate::path::BranchPath;
 use crate::plan::{Completion, Edit, Prepared};
 use crate::try_flags::flag_valid_path;
-use chain::Reply;
 use coins::Changes;
+use model::Reply;
 use std::alloc::Global;
 use tree::{Lays, Marking, NewBlock};
 use wire::Memory;

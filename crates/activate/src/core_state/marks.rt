@@ -2,14 +2,14 @@
 
 ghost use Rattle.std.specs.Prelude.{◌≡◌, ◌≤◌, IfOk, length, if◌then◌else◌, IfErr, IfSome};
 ghost use Rattle.tree.specs.State.{has_no_mark};
-ghost use Rattle.chain.specs.Regtest.{regtest};
-ghost use Rattle.chain.specs.Settle.{settle};
-ghost use Rattle.chain.specs.Step.{Invalidate, Reconsider, Precious, mark_says, step};
-ghost use Rattle.chain.specs.declared.reply.MarkReply.TheVariants.{Done};
+ghost use Rattle.model.specs.Regtest.{regtest};
+ghost use Rattle.model.specs.Settle.{settle};
+ghost use Rattle.model.specs.Step.{Invalidate, Reconsider, Precious, mark_says, step};
+ghost use Rattle.model.specs.declared.reply.MarkReply.TheVariants.{Done};
 ghost use Rattle.activate.specs.CoreState.{Follows, coins_of};
 ghost use Rattle.activate.specs.Wants.{AreWantedBy, AreWantedToSettle};
 ghost use Rattle.activate.specs.inside.Preparation.{CanTry, HasOtherMarks, IsPreparationFor};
-ghost use Rattle.curve.specs.Known.{Under};
+ghost use Rattle.signatures.specs.Known.{Under};
 
 use crate::core_state::Core;
 use crate::core_state::preparation::still;
@@ -17,10 +17,10 @@ use crate::core_state::settlement::settled_by;
 use crate::path::Attempt;
 use crate::plan::{Completion, Edit, Prepared};
 use crate::try_flags::flag_failed_try;
-use chain::{MarkReply, Reply};
 use coins::Base;
 use connect::RunsScripts;
 use hash::Id;
+use model::{MarkReply, Reply};
 use queue::Gate;
 use std::alloc::Global;
 use tree::{Marking, Overlay};

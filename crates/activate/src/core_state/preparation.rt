@@ -3,22 +3,22 @@
 ghost use Rattle.std.specs.Prelude.{◌≡◌, ◌≤◌, IfOk, length, IfErr, IfSome};
 ghost use Rattle.hash.specs.declared.id.Id.{Id};
 ghost use Rattle.block.specs.declared.block.Block.{Block};
-ghost use Rattle.chain.specs.PreparedCommand.{command_of};
-ghost use Rattle.chain.specs.Regtest.{regtest};
-ghost use Rattle.chain.specs.Rules.{Rules};
-ghost use Rattle.chain.specs.Submission.{answer_known};
+ghost use Rattle.model.specs.PreparedCommand.{command_of};
+ghost use Rattle.model.specs.Regtest.{regtest};
+ghost use Rattle.model.specs.Rules.{Rules};
+ghost use Rattle.model.specs.Submission.{answer_known};
 ghost use Rattle.activate.specs.CoreState.{Follows, coins_of};
 ghost use Rattle.activate.specs.Wants.{AreWantedByStep};
 ghost use Rattle.activate.specs.inside.Preparation.{IsNoSubmission, IsPreparation, ChangesNothing};
-ghost use Rattle.curve.specs.Known.{Under};
+ghost use Rattle.signatures.specs.Known.{Under};
 
 use crate::block_faults::fault_or_parent;
 use crate::core_state::Core;
 use crate::plan::{Completion, Edit, Prepared};
 use block::StoredBlock;
-use chain::{MarkReply, PreparedCommand, Reply, SubmitReply};
 use coins::{Base, Changes};
 use connect::RunsScripts;
+use model::{MarkReply, PreparedCommand, Reply, SubmitReply};
 use queue::Gate;
 use std::alloc::Global;
 use tree::{MAX_BLOCKS, NewBlock};

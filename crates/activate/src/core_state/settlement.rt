@@ -4,24 +4,24 @@ ghost use Rattle.std.specs.Prelude.{ℕ, ◌≡◌, ◌≤◌, ◌<◌, suc, len
 ghost use Rattle.hash.specs.declared.id.Id.{Id};
 ghost use Rattle.block.specs.declared.block.Block.{Block};
 ghost use Rattle.coins.specs.Coins.{Coins};
-ghost use Rattle.chain.specs.Faults.{IsNew};
-ghost use Rattle.chain.specs.Rules.{Rules};
-ghost use Rattle.chain.specs.SubmissionFacts.{IsJudged};
-ghost use Rattle.chain.specs.Try.{state_after_try};
-ghost use Rattle.chain.specs.Regtest.{regtest};
+ghost use Rattle.model.specs.Faults.{IsNew};
+ghost use Rattle.model.specs.Rules.{Rules};
+ghost use Rattle.model.specs.SubmissionFacts.{IsJudged};
+ghost use Rattle.model.specs.Try.{state_after_try};
+ghost use Rattle.model.specs.Regtest.{regtest};
 ghost use Rattle.activate.specs.CoreState.{CoreState, Follows, coins_of};
 ghost use Rattle.activate.specs.Wants.{AreJoined, AreWantedToSettle};
 ghost use Rattle.activate.specs.inside.Paths.{IsActiveBranch, IsAttempt, IsValid, AreWantedOnWay};
 ghost use Rattle.activate.specs.inside.Preparation.{CanFlag, IsSettledBy, IsTried, core_of, core_with_block, reply_to_failed_try};
-ghost use Rattle.curve.specs.Known.{Under};
+ghost use Rattle.signatures.specs.Known.{Under};
 
 use crate::core_state::Core;
 use crate::path::{ActiveBranch, Attempt, FailedTry};
 use crate::plan::{Completion, Settled};
 use crate::try_flags::flag_failed_try;
-use chain::{SubmitReply, SubmittedBlock};
 use coins::{Base, Changes};
 use connect::RunsScripts;
+use model::{SubmitReply, SubmittedBlock};
 use queue::Gate;
 use std::alloc::Global;
 

@@ -2,20 +2,20 @@
 
 ghost use Rattle.std.specs.Prelude.{◌≡◌, IfErr, IfOk, OnErr, IfSome};
 ghost use Rattle.coins.specs.Changes.{after_changes};
-ghost use Rattle.chain.specs.Commands.{outcome};
-ghost use Rattle.chain.specs.PreparedCommand.{command_of};
-ghost use Rattle.chain.specs.Regtest.{regtest};
+ghost use Rattle.model.specs.Commands.{outcome};
+ghost use Rattle.model.specs.PreparedCommand.{command_of};
+ghost use Rattle.model.specs.Regtest.{regtest};
 ghost use Rattle.activate.specs.CoreState.{Follows, coins_of};
 ghost use Rattle.activate.specs.Steps.{IsStep};
 ghost use Rattle.activate.specs.Wants.{AreWantedByStep};
-ghost use Rattle.curve.specs.Known.{Under};
+ghost use Rattle.signatures.specs.Known.{Under};
 
 use crate::active_branch::MOST_UNDO;
 use crate::core_state::Core;
 use crate::own_coins::ChangesToLay;
-use chain::{PreparedCommand, Reply};
 use coins::{Base, Changes};
 use connect::RunsScripts;
+use model::{PreparedCommand, Reply};
 use queue::Gate;
 use std::alloc::Global;
 

@@ -2,10 +2,10 @@
 use Rattle.std.specs.Prelude.{◌≡◌, All, List, Some}
 use Rattle.std.proofs.Common.{subst, sym}
 use Rattle.queue.specs.Jobs.{Answered, IsEarly, known_then}
-use Rattle.curve.specs.Known.{Known, Under, all_known}
-use Rattle.curve.specs.Triple.{Triples}
-use Rattle.curve.specs.laws.Growth.{table-alone}
-use Rattle.curve.specs.laws.Agreement.{table_agrees}
+use Rattle.signatures.specs.Known.{Known, Under, all_known}
+use Rattle.signatures.specs.Triple.{Triples}
+use Rattle.signatures.specs.laws.Growth.{table-alone}
+use Rattle.signatures.specs.laws.Agreement.{table_agrees}
 
 pub at_table : (table : Triples) (P : Triples → Type 0) → P table → Under (all_known table) P
 at_table table P holds triples agrees = subst P (sym ((table-alone table triples).0 agrees)) holds

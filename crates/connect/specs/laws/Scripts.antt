@@ -4,7 +4,7 @@ use Rattle.std.specs.Option.{option_or}
 use Rattle.txn.specs.declared.tx.Tx.{Tx}
 use Rattle.txn.specs.declared.reason.Reason.{Reason}
 use Rattle.txn.specs.First.{first_broken}
-use Rattle.curve.specs.Triple.{Triples}
+use Rattle.signatures.specs.Triple.{Triples}
 use Rattle.interp.specs.computed.InputVerdict.{accepts}
 use Rattle.interp.specs.laws.InputVerdict.{accepts-right}
 use Rattle.coins.specs.Coins.{Coins}

@@ -1,6 +1,6 @@
 -- What a stop lists.
 use Rattle.std.specs.Prelude.{◌≡◌, Option, List, None, Some, IfSome}
-use Rattle.curve.specs.Triple.{Triple}
+use Rattle.signatures.specs.Triple.{Triple}
 
 -- what is wanted below is wanted above
 pub wanted_weaker : (P Q : List Triple → Type 0) → ((wanted : List Triple) → P wanted → Q wanted) → (told : Option (List Triple)) → IfSome told P → IfSome told Q

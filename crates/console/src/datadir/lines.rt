@@ -3,11 +3,11 @@
 
 use crate::fault::Fault;
 use crate::report::Clients;
-use chain::{Command, Entry};
-use curve::{KeptTriple, Table, TableFault, read_line};
 use durable::first_line;
 use journal::{Asked, RecordFault, Step, block_of, put_record};
 use memchr::memchr;
+use model::{Command, Entry};
+use signatures::{KeptTriple, Table, TableFault, read_line};
 use std::alloc::Global;
 
 /// The line of an entry of this number, from 1, without its end.

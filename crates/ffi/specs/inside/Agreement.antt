@@ -1,8 +1,8 @@
 -- A set of valid signatures that agrees with what a session knows.
-use Rattle.curve.specs.Known.{Agrees}
-use Rattle.curve.specs.laws.Agreement.{table_agrees, found_agrees}
-use Rattle.ffi.specs.declared.signatures.Signatures.{Signatures}
-use Rattle.ffi.specs.declared.signatures.Signatures.TheVariants.{Listed, Found}
+use Rattle.signatures.specs.Known.{Agrees}
+use Rattle.signatures.specs.laws.Agreement.{table_agrees, found_agrees}
+use Rattle.ffi.specs.declared.signature_sources.Signatures.{Signatures}
+use Rattle.ffi.specs.declared.signature_sources.Signatures.TheVariants.{Listed, Found}
 use Rattle.ffi.specs.Signatures.{valid_in}
 use Rattle.ffi.specs.inside.Signatures.{known_in}
 

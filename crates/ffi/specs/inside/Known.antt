@@ -1,7 +1,7 @@
 -- Why nothing is known by two tables, by its number.
 use Rattle.std.specs.Prelude.{◌≡◌, ◌⊎◌, ℕ, List}
-use Rattle.curve.specs.Known.{Verdicts, AreApart}
-use Rattle.curve.specs.Lines.{IsFirstBad}
+use Rattle.signatures.specs.Known.{Verdicts, AreApart}
+use Rattle.signatures.specs.Lines.{IsFirstBad}
 use Rattle.ffi.specs.Known.{AreOf}
 
 -- a triple is in both, a line of one can't be read, which is reported, or memory ran out

@@ -1,6 +1,6 @@
 -- Why a part of bytes, or a table, isn't read, by its number.
 use Rattle.std.specs.Prelude.{◌≡◌, ℕ, ◌⊎◌, List, Result, Ok, Err}
-use Rattle.curve.specs.Lines.{IsFirstBad}
+use Rattle.signatures.specs.Lines.{IsFirstBad}
 use Rattle.wire.specs.declared.fault.WireFault.{WireFault}
 use Rattle.txn.specs.declared.fault.TxFault.{TxFault}
 use Rattle.txn.specs.declared.fault.TxFault.TheVariants as txn

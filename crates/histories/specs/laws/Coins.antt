@@ -5,28 +5,28 @@ use Rattle.block.specs.BlockOfBytes.{block_of_bytes}
 use Rattle.block.specs.Reward.{subsidy_of}
 use Rattle.block.specs.declared.block.Block.{Block}
 use Rattle.coins.specs.Coins.{total}
-use Rattle.curve.specs.Triple.{Triples}
+use Rattle.signatures.specs.Triple.{Triples}
 use Rattle.rules.specs.declared.params.Params.{Params}
 use Rattle.tree.specs.Branches.{height}
 use Rattle.tree.specs.State.{State}
-use Rattle.chain.specs.declared.command.Command.{Command}
-use Rattle.chain.specs.declared.command.Command.TheVariants as command
-use Rattle.chain.specs.declared.entry.Entry.{Entry}
-use Rattle.chain.specs.Chainstate.{chainstate}
-use Rattle.chain.specs.Commands.{submit_step, command_step}
-use Rattle.chain.specs.History.{state_left, state_after_entries}
-use Rattle.chain.specs.Regtest.{ledger, regtest}
-use Rattle.chain.specs.Replay.{coins}
-use Rattle.chain.specs.Rules.{Rules}
-use Rattle.chain.specs.Settle.{active}
-use Rattle.chain.specs.StateInvariant.{IsSettled, AllKept}
-use Rattle.chain.specs.Step.{Request, Submit, Invalidate, Reconsider, Precious, step}
-use Rattle.chain.specs.Total.{subsidies}
-use Rattle.chain.specs.laws.Actives.{active_kept, active_valid}
-use Rattle.chain.specs.laws.Bound.{bounded}
-use Rattle.chain.specs.laws.Coins.{total-valid}
-use Rattle.chain.specs.laws.Kept.{step_kept}
-use Rattle.chain.specs.laws.Steps.{opening_sound, step_sound}
+use Rattle.model.specs.declared.command.Command.{Command}
+use Rattle.model.specs.declared.command.Command.TheVariants as command
+use Rattle.model.specs.declared.entry.Entry.{Entry}
+use Rattle.model.specs.Chainstate.{chainstate}
+use Rattle.model.specs.Commands.{submit_step, command_step}
+use Rattle.model.specs.History.{state_left, state_after_entries}
+use Rattle.model.specs.Regtest.{ledger, regtest}
+use Rattle.model.specs.Replay.{coins}
+use Rattle.model.specs.Rules.{Rules}
+use Rattle.model.specs.Settle.{active}
+use Rattle.model.specs.StateInvariant.{IsSettled, AllKept}
+use Rattle.model.specs.Step.{Request, Submit, Invalidate, Reconsider, Precious, step}
+use Rattle.model.specs.Total.{subsidies}
+use Rattle.model.specs.laws.Actives.{active_kept, active_valid}
+use Rattle.model.specs.laws.Bound.{bounded}
+use Rattle.model.specs.laws.Coins.{total-valid}
+use Rattle.model.specs.laws.Kept.{step_kept}
+use Rattle.model.specs.laws.Steps.{opening_sound, step_sound}
 
 module _ (r : Rules Block Id) where
   abbrev pub Holds : State Block → Type 0

@@ -10,7 +10,7 @@ use Rattle.txn.specs.declared.output.TxOut.{TxOut}
 use Rattle.txn.specs.declared.tx.Tx.{Tx}
 use Rattle.txn.specs.Identity.{id_of}
 use Rattle.block.specs.declared.block.Block.{Block}
-use Rattle.curve.specs.Triple.{Triples}
+use Rattle.signatures.specs.Triple.{Triples}
 use Rattle.script.specs.Kinds.{is_unspendable}
 use Rattle.coins.specs.declared.coin.Coin.{Coin}
 use Rattle.coins.specs.Coins.{Coins, same}
@@ -25,10 +25,10 @@ use Rattle.tree.specs.Branches.{Blocks, block_at, height, on, parent_at}
 use Rattle.tree.specs.Names.{names}
 use Rattle.tree.specs.laws.Branches.{on-itself, on_trans}
 use Rattle.tree.specs.laws.Parents.{climb, height-parent, on-parent, parent-kept}
-use Rattle.chain.specs.Regtest.{ledger, regtest}
-use Rattle.chain.specs.Replay.{coins_at}
-use Rattle.chain.specs.Rules.{Rules}
-use Rattle.chain.specs.laws.Coins.{step-up}
+use Rattle.model.specs.Regtest.{ledger, regtest}
+use Rattle.model.specs.Replay.{coins_at}
+use Rattle.model.specs.Rules.{Rules}
+use Rattle.model.specs.laws.Coins.{step-up}
 use Rattle.histories.specs.Confirmations.{IsCoinOf, IsUnspentAbove, is_spent_in}
 
 -- ---- one transaction

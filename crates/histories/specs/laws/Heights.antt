@@ -12,19 +12,19 @@ use Rattle.tree.specs.State.{State, with_block}
 use Rattle.tree.specs.laws.AddedBlock.{usable_there}
 use Rattle.tree.specs.laws.Branches.{height_there}
 use Rattle.tree.specs.laws.Ranks.{better-height}
-use Rattle.chain.specs.declared.command.Command.TheVariants as command
-use Rattle.chain.specs.declared.reply.SubmitReply.TheVariants.{TreeFull}
-use Rattle.chain.specs.Commands.{submit_step, command_step}
-use Rattle.chain.specs.Context.{first_fault}
-use Rattle.chain.specs.History.{state_left}
-use Rattle.chain.specs.Rules.{Rules}
-use Rattle.chain.specs.Settle.{active, settle}
-use Rattle.chain.specs.StateInvariant.{IsSettled}
-use Rattle.chain.specs.Step.{step}
-use Rattle.chain.specs.Submission.{kept_blocks, outcome_by_fault, outcome_of_submission, submit_says}
-use Rattle.chain.specs.laws.Actives.{active_is, active_kept, active_usable, active_valid, can_from}
-use Rattle.chain.specs.laws.AddedBlock.{valid_there}
-use Rattle.chain.specs.laws.SettledState.{active-settle}
+use Rattle.model.specs.declared.command.Command.TheVariants as command
+use Rattle.model.specs.declared.reply.SubmitReply.TheVariants.{TreeFull}
+use Rattle.model.specs.Commands.{submit_step, command_step}
+use Rattle.model.specs.Context.{first_fault}
+use Rattle.model.specs.History.{state_left}
+use Rattle.model.specs.Rules.{Rules}
+use Rattle.model.specs.Settle.{active, settle}
+use Rattle.model.specs.StateInvariant.{IsSettled}
+use Rattle.model.specs.Step.{step}
+use Rattle.model.specs.Submission.{kept_blocks, outcome_by_fault, outcome_of_submission, submit_says}
+use Rattle.model.specs.laws.Actives.{active_is, active_kept, active_usable, active_valid, can_from}
+use Rattle.model.specs.laws.AddedBlock.{valid_there}
+use Rattle.model.specs.laws.SettledState.{active-settle}
 
 module _ (r : Rules Block Id) (s : State Block) (sound : IsSettled r s) where
   -- the active block of a state is at least as high as that of s

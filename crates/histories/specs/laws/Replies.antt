@@ -1,11 +1,11 @@
 -- The same commands have the same replies.
 use Rattle.std.proofs.Common.{◌≡◌, ◌≢◌, ℕ, List, [], ◌∷◌, Option, Some, None, refl, ap, sym, ◌∙◌, subst}
 use mathlib.Core.List.{IsPrefix}
-use Rattle.chain.specs.declared.command.Command.{Command}
-use Rattle.chain.specs.declared.entry.Entry.{Entry}
-use Rattle.chain.specs.declared.reply.Reply.{Reply}
-use Rattle.chain.specs.Machine.{Machine}
-use Rattle.chain.specs.History.{Answers, LegalFrom, state_left}
+use Rattle.model.specs.declared.command.Command.{Command}
+use Rattle.model.specs.declared.entry.Entry.{Entry}
+use Rattle.model.specs.declared.reply.Reply.{Reply}
+use Rattle.model.specs.Machine.{Machine}
+use Rattle.model.specs.History.{Answers, LegalFrom, state_left}
 use Rattle.histories.specs.Histories.{AreAnswered, commands_of, replies_of}
 
 -- a step has one reply

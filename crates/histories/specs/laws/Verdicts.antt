@@ -2,17 +2,17 @@
 use Rattle.std.proofs.Common.{◌≡◌, ℕ, Bool, true, false, cond, List, [], ◌∷◌, refl, ap, sym, ◌∙◌, subst}
 use Rattle.std.proofs.lemmas.Bool.{true≢false}
 use Rattle.block.specs.declared.block.Block.{Block}
-use Rattle.curve.specs.Triple.{Triples}
+use Rattle.signatures.specs.Triple.{Triples}
 use Rattle.rules.specs.declared.params.Params.{Params}
 use Rattle.tree.specs.State.{State}
-use Rattle.chain.specs.declared.command.Command.{Command}
-use Rattle.chain.specs.declared.command.Command.TheVariants.{Submit, Invalidate, Reconsider, Precious, Learn}
-use Rattle.chain.specs.declared.entry.Entry.{Entry}
-use Rattle.chain.specs.Commands.{command_step}
-use Rattle.chain.specs.Chainstate.{chainstate}
-use Rattle.chain.specs.Machine.{Machine}
-use Rattle.chain.specs.History.{state_left, state_after_entries, LegalFrom}
-use Rattle.chain.specs.Regtest.{regtest}
+use Rattle.model.specs.declared.command.Command.{Command}
+use Rattle.model.specs.declared.command.Command.TheVariants.{Submit, Invalidate, Reconsider, Precious, Learn}
+use Rattle.model.specs.declared.entry.Entry.{Entry}
+use Rattle.model.specs.Commands.{command_step}
+use Rattle.model.specs.Chainstate.{chainstate}
+use Rattle.model.specs.Machine.{Machine}
+use Rattle.model.specs.History.{state_left, state_after_entries, LegalFrom}
+use Rattle.model.specs.Regtest.{regtest}
 use Rattle.histories.specs.Histories.{AreAnswered, is_verdict, without_verdicts}
 
 module _ (p : Params) (valid : Triples) where

@@ -4,7 +4,7 @@ use Rattle.script.specs.Op.{pushed_of}
 use Rattle.script.specs.Ops.{ops, operand_len, rest}
 use Rattle.script.specs.Num.{operand, num_value, shortest_bytes, shortest_bytes_with}
 use Rattle.interp.specs.Elements.{truth}
-use Rattle.curve.specs.Known.{Known}
+use Rattle.signatures.specs.Known.{Known}
 use Rattle.interp.specs.Answer.{Says}
 use Rattle.interp.specs.Question.{Question}
 use Rattle.interp.specs.computed.Signatures.{pairs_verdict}

@@ -5,7 +5,7 @@ use Rattle.std.specs.Option.{option_map_or, ok_or}
 use Rattle.std.specs.List.{concat}
 use Rattle.script.specs.Ops.{ops, rest, is_whole}
 use Rattle.script.specs.Kinds.{is_push_only, is_p2sh, max_script_size}
-use Rattle.curve.specs.Known.{Known}
+use Rattle.signatures.specs.Known.{Known}
 use Rattle.interp.specs.Answer.{Answer, Says, Wants, answer_map}
 use Rattle.interp.specs.Question.{Question}
 use Rattle.interp.specs.Stack.{Stack}

@@ -1,9 +1,9 @@
 -- Whether signatures are valid, by what is known.
 use Rattle.std.specs.Prelude.{ℕ, ◌==◌, List, [], ◌∷◌, length, Bool, true, false, not, ◌||◌, nat_lt, Option, Some, None, if◌then◌else◌}
 use Rattle.sighash.specs.Digest.{digest_of}
-use Rattle.curve.specs.computed.Shape.{is_strict}
-use Rattle.curve.specs.Known.{Known}
-use Rattle.curve.specs.Triple.{Triple, triple_of}
+use Rattle.signatures.specs.computed.Shape.{is_strict}
+use Rattle.signatures.specs.Known.{Known}
+use Rattle.signatures.specs.Triple.{Triple, triple_of}
 use Rattle.interp.specs.Answer.{Answer, Says, Wants, answer_map, and_then}
 use Rattle.interp.specs.Question.{Question}
 use Rattle.interp.specs.Signatures.{signature_proper, type_of}

@@ -9,7 +9,7 @@ use Rattle.txn.specs.declared.input.TxIn.{TxIn}
 use Rattle.interp.specs.Limits.{max_elements}
 use Rattle.interp.specs.Stack.{Stack}
 use Rattle.interp.specs.Elements.{truth_bytes, top_is_true}
-use Rattle.curve.specs.Known.{Known}
+use Rattle.signatures.specs.Known.{Known}
 use Rattle.interp.specs.Answer.{Answer, Says, Wants, answer_map, on_some, and_then, also}
 use Rattle.interp.specs.Question.{Question}
 use Rattle.interp.specs.State.{State, is_executing, start}

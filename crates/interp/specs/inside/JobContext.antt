@@ -1,5 +1,5 @@
 -- What the scripts of a question can look at.
-use Rattle.curve.specs.Triple.{Triples}
+use Rattle.signatures.specs.Triple.{Triples}
 use Rattle.interp.specs.Question.{Question}
 use Rattle.interp.specs.ScriptContext.{Spending, spending_of}
 

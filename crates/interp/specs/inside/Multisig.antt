@@ -1,7 +1,7 @@
 -- CHECKMULTISIG's elements, by their places on the stack.
 use Rattle.std.specs.Prelude.{ℕ, ◌+◌, List, [], ◌∷◌, length, take, drop, Bool, Option, Some, None, option_and_then, nat_lt, if◌then◌else◌}
 use Rattle.std.specs.Option.{option_map}
-use Rattle.curve.specs.Known.{Known}
+use Rattle.signatures.specs.Known.{Known}
 use Rattle.interp.specs.Limits.{max_ops, max_keys, max_number_size}
 use Rattle.interp.specs.Answer.{Answer, answer_map}
 use Rattle.interp.specs.Question.{Question}

@@ -9,8 +9,8 @@ use borrow.Author.Tests.{ne_eqb, eqb-true}
 use Rattle.script.specs.Ops.{ops, rest, is_whole}
 use Rattle.script.specs.Kinds.{is_push_only, is_p2sh}
 use Rattle.txn.specs.declared.input.TxIn.{TxIn}
-use Rattle.curve.specs.Known.{all_known}
-use Rattle.curve.specs.Triple.{Triples}
+use Rattle.signatures.specs.Known.{all_known}
+use Rattle.signatures.specs.Triple.{Triples}
 use Rattle.interp.specs.Answer.{Answer, Says, Wants, and_then, also}
 use Rattle.interp.specs.Question.{Question}
 use Rattle.interp.specs.Stack.{Stack}

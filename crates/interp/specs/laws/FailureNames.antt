@@ -7,7 +7,7 @@ use Rattle.std.specs.List.{concat}
 use Rattle.script.specs.Ops.{ops, rest, is_whole}
 use Rattle.script.specs.Kinds.{is_push_only, is_p2sh}
 use Rattle.txn.specs.declared.input.TxIn.{TxIn}
-use Rattle.curve.specs.Known.{Known}
+use Rattle.signatures.specs.Known.{Known}
 use Rattle.interp.specs.declared.script_error.ScriptError.{ScriptError}
 use Rattle.interp.specs.declared.script_error.ScriptError.TheVariants.{UnknownError, EvalFalse, ScriptSize, OpCount, StackSize, UnbalancedConditional, SigPushOnly}
 use Rattle.interp.specs.Answer.{Answer, Says, Wants, answer_map, and_then, also}

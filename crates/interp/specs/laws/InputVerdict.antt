@@ -2,8 +2,8 @@
 use Rattle.std.specs.Prelude.{◌≡◌, ◌↔◌, ℕ, List, Bool, true, Some, IsTrue}
 use Rattle.std.proofs.Common.{sym, ap, ◌∙◌}
 use Rattle.txn.specs.declared.tx.Tx.{Tx}
-use Rattle.curve.specs.Known.{Known, Under, all_known}
-use Rattle.curve.specs.Triple.{Triple, Triples}
+use Rattle.signatures.specs.Known.{Known, Under, all_known}
+use Rattle.signatures.specs.Triple.{Triple, Triples}
 use Rattle.interp.specs.declared.flags.Flags.{Flags}
 use Rattle.interp.specs.Answer.{Answer, Says, Wants}
 use Rattle.interp.specs.Question.{Question, question}

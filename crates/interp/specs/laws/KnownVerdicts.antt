@@ -5,9 +5,9 @@ use Rattle.std.specs.List.{concat}
 use Rattle.script.specs.Ops.{ops, rest}
 use Rattle.script.specs.Kinds.{is_push_only, is_p2sh}
 use Rattle.txn.specs.declared.input.TxIn.{TxIn}
-use Rattle.curve.specs.Known.{Known}
-use Rattle.curve.specs.Triple.{Triple}
-use Rattle.curve.specs.laws.Growth.{Grows}
+use Rattle.signatures.specs.Known.{Known}
+use Rattle.signatures.specs.Triple.{Triple}
+use Rattle.signatures.specs.laws.Growth.{Grows}
 use Rattle.interp.specs.Answer.{Answer, Says, Wants, answer_map, on_some, and_then, also}
 use Rattle.interp.specs.Question.{Question}
 use Rattle.interp.specs.Signatures.{signed_code}

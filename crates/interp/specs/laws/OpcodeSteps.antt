@@ -4,8 +4,8 @@ use Rattle.std.proofs.Common.{◌≡◌, inl, inr, ℕ, ◌+◌, ◌≤◌, List
 use Rattle.std.proofs.lemmas.Bool.{cases_lt}
 use borrow.Author.Tests.{lt-ltb, le-ltb}
 use Rattle.std.specs.Option.{option_and_then}
-use Rattle.curve.specs.Known.{all_known}
-use Rattle.curve.specs.Triple.{Triples}
+use Rattle.signatures.specs.Known.{all_known}
+use Rattle.signatures.specs.Triple.{Triples}
 use Rattle.interp.specs.Answer.{Says, answer_map}
 use Rattle.interp.specs.Question.{Question}
 use Rattle.interp.specs.inside.JobContext.{spending_for}

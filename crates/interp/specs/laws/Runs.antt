@@ -7,7 +7,7 @@ use borrow.Author.Tests.{lt-ltb, le-ltb}
 use Rattle.script.specs.Ops.{op_len, ops, rest, is_whole}
 use Rattle.script.specs.laws.Ops.{length_taken, op_len_positive, op_len_bound, ops-more, ops-none, rest-more, rest-none}
 use Rattle.interp.specs.Stack.{Stack}
-use Rattle.curve.specs.Known.{Known}
+use Rattle.signatures.specs.Known.{Known}
 use Rattle.interp.specs.Answer.{Says, answer_map, and_then}
 use Rattle.interp.specs.Question.{Question}
 use Rattle.interp.specs.State.{State, start}

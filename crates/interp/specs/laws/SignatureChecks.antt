@@ -4,9 +4,9 @@ use Rattle.std.proofs.Common.{◌≡◌, ◌⊎◌, inl, inr, ℕ, List, [], ◌
 use Rattle.std.proofs.lemmas.Bool.{cases_lt}
 use borrow.Author.Tests.{lt-ltb, le-ltb}
 use Rattle.std.specs.Option.{option_map}
-use Rattle.curve.specs.Shape.{IsStrict}
-use Rattle.curve.specs.laws.Shape.{strict-sound, strict-again}
-use Rattle.curve.specs.computed.Shape.{is_strict}
+use Rattle.signatures.specs.Shape.{IsStrict}
+use Rattle.signatures.specs.laws.Shape.{strict-sound, strict-again}
+use Rattle.signatures.specs.computed.Shape.{is_strict}
 use Rattle.interp.specs.Stack.{Stack, Bytes}
 use Rattle.interp.specs.Elements.{truth_bytes}
 use Rattle.interp.specs.Answer.{Says}
@@ -18,8 +18,8 @@ use Rattle.interp.specs.Signatures.{signed_code, is_valid, MayBeTried, Tries}
 use Rattle.interp.specs.computed.Signatures.{may_be_tried, pair_verdict, pairs_verdict}
 use Rattle.interp.specs.computed.Step.{after_sig, after_taking, after_multisig}
 use Rattle.interp.specs.Rules.{ChecksOne, multisig_of, with_answer, ChecksMany}
-use Rattle.curve.specs.Known.{all_known}
-use Rattle.curve.specs.Triple.{Triples}
+use Rattle.signatures.specs.Known.{all_known}
+use Rattle.signatures.specs.Triple.{Triples}
 use Rattle.interp.specs.laws.Answers.{map-some, map-says, some-says, then-says}
 
 -- ---- a pair

@@ -1,12 +1,12 @@
 -- What a publication brings of the entry that is owed, beside its changes.
 use Rattle.std.specs.Prelude.{◌≡◌, List, [], ◌∷◌, ◌++◌, map, Option}
-use Rattle.curve.specs.Triple.{Triples}
+use Rattle.signatures.specs.Triple.{Triples}
 use Rattle.tree.specs.Branches.{height}
 use Rattle.tree.specs.Tips.{tip_of_id}
-use Rattle.chain.specs.declared.reply.Reply.{Reply}
-use Rattle.chain.specs.declared.entry.Entry.{Entry}
-use Rattle.chain.specs.Regtest.{regtest}
-use Rattle.chain.specs.Settle.{active, best, tips}
+use Rattle.model.specs.declared.reply.Reply.{Reply}
+use Rattle.model.specs.declared.entry.Entry.{Entry}
+use Rattle.model.specs.Regtest.{regtest}
+use Rattle.model.specs.Settle.{active, best, tips}
 use Rattle.activate.specs.CoreState.{CoreState, Follows}
 use Rattle.view.specs.declared.chain_info.ChainInfo.{ChainInfo}
 use Rattle.node.specs.inside.PublishedState.{entry_with_reply}

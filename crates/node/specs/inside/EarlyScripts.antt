@@ -1,17 +1,17 @@
 -- The scripts of a block that can be run before the lock is taken.
 use Rattle.std.specs.Prelude.{◌≡◌, ◌⊎◌, ◌+◌, List, [], Option, None, Some}
 use Rattle.txn.specs.declared.tx.Tx.{Tx}
-use Rattle.curve.specs.Known.{Under}
-use Rattle.curve.specs.Triple.{Triples}
+use Rattle.signatures.specs.Known.{Under}
+use Rattle.signatures.specs.Triple.{Triples}
 use Rattle.tree.specs.Branches.{height}
 use Rattle.queue.specs.Jobs.{Batch}
 use Rattle.rules.specs.declared.params.Params.{Params}
 use Rattle.rules.specs.Params.{at}
 use Rattle.connect.specs.Scripts.{flags_of}
 use Rattle.connect.specs.Early.{early_spendings}
-use Rattle.chain.specs.declared.submission.SubmittedBlock.{SubmittedBlock}
-use Rattle.chain.specs.Regtest.{regtest}
-use Rattle.chain.specs.Settle.{active, best}
+use Rattle.model.specs.declared.submission.SubmittedBlock.{SubmittedBlock}
+use Rattle.model.specs.Regtest.{regtest}
+use Rattle.model.specs.Settle.{active, best}
 use Rattle.view.specs.Origin.{known_in}
 use Rattle.view.specs.ViewState.{ViewState, state_after}
 

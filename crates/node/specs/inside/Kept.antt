@@ -1,16 +1,16 @@
 -- The history as it is kept, with the chainstate after it.
 use Rattle.std.specs.Prelude.{◌≡◌, ◌≤◌, Bool, true, false, List, None}
 use Rattle.block.specs.BlockOfBytes.{block_of_bytes}
-use Rattle.curve.specs.Known.{Under}
-use Rattle.curve.specs.Triple.{Triples}
+use Rattle.signatures.specs.Known.{Under}
+use Rattle.signatures.specs.Triple.{Triples}
 use Rattle.tree.specs.Limits.{max_blocks}
-use Rattle.chain.specs.declared.command.Command.{Command}
-use Rattle.chain.specs.declared.command.Command.TheVariants as command
-use Rattle.chain.specs.declared.reply.Reply.{Reply}
-use Rattle.chain.specs.declared.reply.Reply.TheVariants as reply
-use Rattle.chain.specs.declared.reply.SubmitReply.TheVariants.{DecodeFailed}
-use Rattle.chain.specs.declared.entry.Entry.{Entry}
-use Rattle.chain.specs.Submission.{kept_blocks}
+use Rattle.model.specs.declared.command.Command.{Command}
+use Rattle.model.specs.declared.command.Command.TheVariants as command
+use Rattle.model.specs.declared.reply.Reply.{Reply}
+use Rattle.model.specs.declared.reply.Reply.TheVariants as reply
+use Rattle.model.specs.declared.reply.SubmitReply.TheVariants.{DecodeFailed}
+use Rattle.model.specs.declared.entry.Entry.{Entry}
+use Rattle.model.specs.Submission.{kept_blocks}
 use Rattle.activate.specs.CoreState.{WithCoins, IsChainstate}
 use Rattle.view.specs.Origin.{Origin, known_in}
 use Rattle.view.specs.ViewState.{IsLegal, state_after}

@@ -1,12 +1,12 @@
 -- What is known of signatures under the lock.
 use Rattle.std.specs.Prelude.{◌≡◌, Bool, List, None, Some}
 use Rattle.std.specs.Arc.{arc_value}
-use Rattle.curve.specs.Known.{Known, all_known, verdict_in, with_verdict}
-use Rattle.curve.specs.Triple.{Triple}
-use Rattle.chain.specs.declared.command.Command.{Command}
-use Rattle.chain.specs.declared.command.Command.TheVariants as command
-use Rattle.chain.specs.declared.entry.Entry.{Entry}
-use Rattle.chain.specs.Learnt.{found_in}
+use Rattle.signatures.specs.Known.{Known, all_known, verdict_in, with_verdict}
+use Rattle.signatures.specs.Triple.{Triple}
+use Rattle.model.specs.declared.command.Command.{Command}
+use Rattle.model.specs.declared.command.Command.TheVariants as command
+use Rattle.model.specs.declared.entry.Entry.{Entry}
+use Rattle.model.specs.Learnt.{found_in}
 use Rattle.view.specs.Origin.{Origin}
 use Rattle.node.specs.declared.published_history.knowledge.Knowledge.{Knowledge}
 use Rattle.node.specs.declared.published_history.knowledge.Knowledge.TheVariants.{Table, Found}

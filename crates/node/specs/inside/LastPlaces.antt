@@ -1,7 +1,7 @@
 -- Where each seat's last entry is.
 use Rattle.std.specs.Prelude.{◌≡◌, ◌≤◌, ℕ, List, [], Some, length, drop, slice_get}
-use Rattle.chain.specs.declared.entry.Entry.{Entry}
-use Rattle.chain.specs.History.{own_of}
+use Rattle.model.specs.declared.entry.Entry.{Entry}
+use Rattle.model.specs.History.{own_of}
 
 -- a seat has no entry behind a place of the history
 abbrev pub IsLastPlace : ℕ → ℕ → List Entry → Type 0

@@ -1,7 +1,7 @@
 -- Verdicts that a seat keeps.
 use Rattle.std.specs.Prelude.{◌≡◌}
-use Rattle.curve.specs.Known.{Verdicts, verdict_in}
-use Rattle.curve.specs.laws.Growth.{Grows}
+use Rattle.signatures.specs.Known.{Verdicts, verdict_in}
+use Rattle.signatures.specs.laws.Growth.{Grows}
 use Rattle.view.specs.HistoryPrefix.{Beginning}
 use Rattle.view.specs.Origin.{Origin, known_in}
 

@@ -1,15 +1,15 @@
 -- The history of a node of many seats, as it lies under the lock, and what is published of it.
 use Rattle.std.specs.Prelude.{◌≡◌, ℕ, Bool, true, false, List, [], ◌∷◌, ◌++◌, Option, None, IfSome, is_none}
-use Rattle.curve.specs.Known.{Known, Under}
-use Rattle.curve.specs.Triple.{Triples}
+use Rattle.signatures.specs.Known.{Known, Under}
+use Rattle.signatures.specs.Triple.{Triples}
 use Rattle.coins.specs.Changes.{Changes, AreChanges}
-use Rattle.chain.specs.declared.command.Command.{Command}
-use Rattle.chain.specs.declared.reply.Reply.{Reply}
-use Rattle.chain.specs.declared.entry.Entry.{Entry}
-use Rattle.chain.specs.Commands.{outcome}
-use Rattle.chain.specs.Learnt.{IsNews}
-use Rattle.chain.specs.History.{entry_of}
-use Rattle.chain.specs.Regtest.{regtest}
+use Rattle.model.specs.declared.command.Command.{Command}
+use Rattle.model.specs.declared.reply.Reply.{Reply}
+use Rattle.model.specs.declared.entry.Entry.{Entry}
+use Rattle.model.specs.Commands.{outcome}
+use Rattle.model.specs.Learnt.{IsNews}
+use Rattle.model.specs.History.{entry_of}
+use Rattle.model.specs.Regtest.{regtest}
 use Rattle.activate.specs.CoreState.{CoreState, WithCoins}
 use Rattle.activate.specs.CoreState as core_state
 use Rattle.view.specs.HistoryPrefix.{Beginning}

@@ -1,10 +1,10 @@
 -- Why no step was taken under the lock.
 use Rattle.std.specs.Prelude.{List}
-use Rattle.curve.specs.Known.{Known}
+use Rattle.signatures.specs.Known.{Known}
 use Rattle.queue.specs.declared.no_answer.Undecided.{Undecided}
 use Rattle.queue.specs.declared.no_answer.Undecided.TheVariants as stop
-use Rattle.chain.specs.declared.command.Command.{Command}
-use Rattle.chain.specs.declared.entry.Entry.{Entry}
+use Rattle.model.specs.declared.command.Command.{Command}
+use Rattle.model.specs.declared.entry.Entry.{Entry}
 use Rattle.activate.specs.CoreState.{CoreState}
 use Rattle.activate.specs.Wants.{AreWantedByStep}
 use Rattle.view.specs.Origin.{Origin}

@@ -1,9 +1,9 @@
 -- What a seat finds as it enters the published view.
 use Rattle.std.specs.Prelude.{◌≡◌, List, Option}
 use mathlib.Core.List.{IsPrefix}
-use Rattle.curve.specs.Triple.{Triples}
+use Rattle.signatures.specs.Triple.{Triples}
 use Rattle.rules.specs.declared.params.Params.{Params}
-use Rattle.chain.specs.declared.entry.Entry.{Entry}
+use Rattle.model.specs.declared.entry.Entry.{Entry}
 use Rattle.view.specs.HistoryPrefix.{Beginning}
 use Rattle.view.specs.Origin.{Origin}
 use Rattle.view.specs.ViewState.{ViewState, IsExact, IsLegal}

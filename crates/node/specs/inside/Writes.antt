@@ -1,9 +1,9 @@
 -- What a seat's writing calls answer, before the answer is told apart by the call.
 use Rattle.std.specs.Prelude.{◌≡◌, ◌⊎◌, ℕ, false, [], ◌∷◌, ◌++◌}
-use Rattle.chain.specs.declared.command.Command.{Command}
-use Rattle.chain.specs.declared.command.Command.TheVariants as command
-use Rattle.chain.specs.declared.reply.Reply.{Reply}
-use Rattle.chain.specs.declared.reply.Reply.TheVariants as reply
+use Rattle.model.specs.declared.command.Command.{Command}
+use Rattle.model.specs.declared.command.Command.TheVariants as command
+use Rattle.model.specs.declared.reply.Reply.{Reply}
+use Rattle.model.specs.declared.reply.Reply.TheVariants as reply
 use Rattle.node.specs.declared.fault.Fault.{Fault}
 use Rattle.node.specs.declared.fault.Fault.TheVariants.{Memory, Owed, Closed, Unknown}
 use Rattle.node.specs.Pass.{Pass, IsWrite, owed_entry}

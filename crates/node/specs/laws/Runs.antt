@@ -2,22 +2,22 @@
 use Rattle.std.proofs.Common.{◌≡◌, ℕ, zero, suc, ◌+◌, ◌<◌, ◌≤◌, max, List, [], ◌∷◌, ◌++◌, length, take, drop, slice_get, Option, Some, None, Ok, Err, refl, ap, sym, ◌∙◌, subst, append_assoc, append-nil, length-append, arith, ⊎_elim, inl, inr, Bool, not}
 use mathlib.Core.List.{IsPrefix}
 use Rattle.txn.specs.declared.outpoint.OutPoint.{OutPoint}
-use Rattle.curve.specs.Known.{Agrees}
-use Rattle.curve.specs.Triple.{Triple, Triples}
+use Rattle.signatures.specs.Known.{Agrees}
+use Rattle.signatures.specs.Triple.{Triple, Triples}
 use Rattle.coins.specs.Coins.{Coins}
 use Rattle.coins.specs.declared.coin.Coin.{Coin}
-use Rattle.chain.specs.declared.command.Command.{Command}
-use Rattle.chain.specs.declared.command.Command.TheVariants as command
-use Rattle.chain.specs.declared.reply.Reply.{Reply}
-use Rattle.chain.specs.declared.reply.Reply.TheVariants as reply
-use Rattle.chain.specs.declared.reply.SubmitReply.{SubmitReply}
-use Rattle.chain.specs.declared.reply.SubmitReply.TheVariants.{Accepted, Inconclusive, Duplicate, DuplicateInvalid, DuplicateInconclusive, Rejected, DecodeFailed, TreeFull}
-use Rattle.chain.specs.declared.entry.Entry.{Entry}
-use Rattle.chain.specs.History.{state_left, state_after_entries, state_at, Answers, Stands, own_of, entry_of}
-use Rattle.chain.specs.declared.reply.MarkReply.TheVariants.{Done}
-use Rattle.chain.specs.Learnt.{AreNews}
-use Rattle.chain.specs.laws.History.{state_after-append, stands_within}
-use Rattle.chain.specs.laws.Learnt.{agreed_with_front}
+use Rattle.model.specs.declared.command.Command.{Command}
+use Rattle.model.specs.declared.command.Command.TheVariants as command
+use Rattle.model.specs.declared.reply.Reply.{Reply}
+use Rattle.model.specs.declared.reply.Reply.TheVariants as reply
+use Rattle.model.specs.declared.reply.SubmitReply.{SubmitReply}
+use Rattle.model.specs.declared.reply.SubmitReply.TheVariants.{Accepted, Inconclusive, Duplicate, DuplicateInvalid, DuplicateInconclusive, Rejected, DecodeFailed, TreeFull}
+use Rattle.model.specs.declared.entry.Entry.{Entry}
+use Rattle.model.specs.History.{state_left, state_after_entries, state_at, Answers, Stands, own_of, entry_of}
+use Rattle.model.specs.declared.reply.MarkReply.TheVariants.{Done}
+use Rattle.model.specs.Learnt.{AreNews}
+use Rattle.model.specs.laws.History.{state_after-append, stands_within}
+use Rattle.model.specs.laws.Learnt.{agreed_with_front}
 use Rattle.view.specs.Origin.{Origin, known_in, machine}
 use Rattle.view.specs.ViewState.{IsLegal, IsLegalWith}
 use Rattle.node.specs.declared.answer.Learning.{Learning}

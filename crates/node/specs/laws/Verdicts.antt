@@ -1,6 +1,6 @@
 -- A list of verdicts is a list of calls.
 use Rattle.std.proofs.Common.{ℕ, Bool, List, [], ◌∷◌, ◌++◌, take, Result, Ok, refl, subst}
-use Rattle.curve.specs.Triple.{Triple}
+use Rattle.signatures.specs.Triple.{Triple}
 use Rattle.node.specs.declared.answer.Learning.{Learning}
 use Rattle.node.specs.declared.answer.Stamped.{Stamped}
 use Rattle.node.specs.declared.fault.Fault.{Fault}

@@ -2,13 +2,13 @@
 
 ghost use Rattle.std.specs.Prelude.{◌≡◌, ◌++◌, ◌∷◌, [], true, false, None, IfSome, List};
 ghost use Rattle.std.specs.Arc.{arc_value};
-ghost use Rattle.chain.specs.declared.entry.Entry.{Entry as EntryValue};
+ghost use Rattle.model.specs.declared.entry.Entry.{Entry as EntryValue};
 ghost use Rattle.node.specs.inside.Brought.{IsBrought};
 ghost use Rattle.node.specs.inside.PublishedState.{entry_with_reply};
 
 use crate::published_history::core_info::chain_info;
 use activate::Core;
-use chain::{Entry, Reply};
+use model::{Entry, Reply};
 use std::alloc::Global;
 use std::sync::Arc;
 use view::{ChainInfo, Hub, SharedEntry};

@@ -3,7 +3,7 @@
 ghost use Rattle.std.specs.Prelude.{◌≡◌, IfOk};
 
 use activate::Core;
-use chain::{Command, PreparedCommand};
+use model::{Command, PreparedCommand};
 use wire::Memory;
 
 /// An equal command. It shares the bytes of a block that is kept already, so that one that is submitted again takes none.

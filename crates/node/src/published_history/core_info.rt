@@ -1,11 +1,11 @@
 //! What readers are told of a core.
 
 ghost use Rattle.std.specs.Prelude.{◌≡◌, IfOk, map};
-ghost use Rattle.curve.specs.Triple.{Triples};
+ghost use Rattle.signatures.specs.Triple.{Triples};
 ghost use Rattle.tree.specs.Branches.{height};
 ghost use Rattle.tree.specs.Tips.{tip_of_id};
-ghost use Rattle.chain.specs.Regtest.{regtest};
-ghost use Rattle.chain.specs.Settle.{active, best, tips};
+ghost use Rattle.model.specs.Regtest.{regtest};
+ghost use Rattle.model.specs.Settle.{active, best, tips};
 ghost use Rattle.activate.specs.CoreState.{Follows};
 
 use activate::Core;

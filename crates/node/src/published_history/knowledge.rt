@@ -6,7 +6,7 @@ ghost use Rattle.std.specs.Option.{option_map};
 ghost use Rattle.view.specs.Origin.{Origin};
 ghost use Rattle.node.specs.inside.Knowledge.{IsKnowledge, known_of, with_learnt};
 
-use curve::{KeptTriple, KnownSignatures, KnowsSignatures, Table};
+use signatures::{KeptTriple, KnownSignatures, KnowsSignatures, Table};
 use std::alloc::Global;
 use std::sync::Arc;
 use wire::Memory;

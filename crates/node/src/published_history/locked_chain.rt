@@ -2,8 +2,8 @@
 
 ghost use Rattle.std.specs.Prelude.{◌≡◌, ◌≤◌, All, IfOk, IfErr};
 ghost use Rattle.queue.specs.Jobs.{IsEarly};
-ghost use Rattle.chain.specs.Learnt.{IsNews};
-ghost use Rattle.chain.specs.PreparedCommand.{command_of};
+ghost use Rattle.model.specs.Learnt.{IsNews};
+ghost use Rattle.model.specs.PreparedCommand.{command_of};
 ghost use Rattle.node.specs.inside.Knowledge.{known_behind, known_of};
 ghost use Rattle.node.specs.inside.PublishedState.{AreCoreSteps, IsCoreReply, IsLockedAt};
 ghost use Rattle.node.specs.inside.Refusal.{IsWantOf};
@@ -12,11 +12,11 @@ use crate::published_history::knowledge::Knowledge;
 use crate::published_history::refusal::Refusal;
 use crate::reader_home::ReaderHome;
 use activate::Core;
-use chain::{MarkReply, PreparedCommand, Reply};
 use coins::Changes;
 use connect::Env;
-use curve::{KnownSignatures, Table};
+use model::{MarkReply, PreparedCommand, Reply};
 use queue::{Crew, Gate, Verdicts};
+use signatures::{KnownSignatures, Table};
 use std::alloc::Global;
 use view::{Naming, Note};
 

@@ -2,8 +2,8 @@
 
 ghost use Rattle.std.specs.Prelude.{◌≡◌};
 
-use curve::KeptTriple;
 use queue::Undecided;
+use signatures::KeptTriple;
 use wire::Memory;
 
 /// Why no step was taken.

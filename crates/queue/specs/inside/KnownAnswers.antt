@@ -15,8 +15,8 @@ use Rattle.queue.specs.declared.verdict_index.Key.{Key}
 use Rattle.queue.specs.declared.verdict.Verdict.{Verdict}
 use Rattle.queue.specs.declared.verdict.Verdict.TheVariants as verdict
 use Rattle.queue.specs.declared.verdict_index.Slot.{Slot}
-use Rattle.curve.specs.Known.{Known}
-use Rattle.curve.specs.Triple.{Triple}
+use Rattle.signatures.specs.Known.{Known}
+use Rattle.signatures.specs.Triple.{Triple}
 use Rattle.interp.specs.Answer.{Answer, Wants}
 use Rattle.interp.specs.Question.{Question}
 use Rattle.interp.specs.computed.Step.{verdict}

@@ -1,6 +1,6 @@
 -- The caller's walk over a list, and what workers found ahead of it.
 use Rattle.std.specs.Prelude.{◌≡◌, ℕ, Bool, List, Option, Some, slice_get}
-use Rattle.curve.specs.Triple.{Triple}
+use Rattle.signatures.specs.Triple.{Triple}
 use Rattle.interp.specs.Answer.{Answer}
 use Rattle.queue.specs.declared.verdict.Verdict.{Verdict}
 use Rattle.queue.specs.Ahead.{answer_of}

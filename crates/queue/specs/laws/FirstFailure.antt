@@ -3,8 +3,8 @@ use Rattle.std.proofs.Common.{Bool, List, None, Option, Some, [], ap, arith, fal
 use Rattle.std.specs.Prelude.{All, slice_get}
 use Rattle.std.proofs.lemmas.List.Elements.{All-append, All-cons, All-nil}
 use Rattle.std.proofs.lemmas.Option.{slice_get_within}
-use Rattle.curve.specs.Known.{Known, Under}
-use Rattle.curve.specs.Triple.{Triple, Triples}
+use Rattle.signatures.specs.Known.{Known, Under}
+use Rattle.signatures.specs.Triple.{Triple, Triples}
 use Rattle.interp.specs.Answer.{Answer, Says, Wants}
 use Rattle.interp.specs.Question.{question_of}
 use Rattle.interp.specs.declared.job.Job.{Job}

@@ -18,12 +18,12 @@ use Rattle.reference.specs.declared.branch_replay.Trial.{Trial}
 use Rattle.reference.specs.declared.branch_replay.Trial.TheVariants.{Valid, Fails, Below}
 use Rattle.reference.specs.declared.judgement.Judgement.{Judgement}
 use Rattle.reference.specs.declared.state.Replayed.{Replayed}
-use Rattle.chain.specs.declared.reply.SubmitReply.{SubmitReply}
-use Rattle.chain.specs.declared.reply.SubmitReply.TheVariants.{Inconclusive, Rejected}
-use Rattle.chain.specs.Rules.{Rules}
-use Rattle.chain.specs.Valid.{fault_over}
-use Rattle.chain.specs.Regtest.{regtest}
-use Rattle.chain.specs.StateInvariant.{AllKept}
+use Rattle.model.specs.declared.reply.SubmitReply.{SubmitReply}
+use Rattle.model.specs.declared.reply.SubmitReply.TheVariants.{Inconclusive, Rejected}
+use Rattle.model.specs.Rules.{Rules}
+use Rattle.model.specs.Valid.{fault_over}
+use Rattle.model.specs.Regtest.{regtest}
+use Rattle.model.specs.StateInvariant.{AllKept}
 
 abbrev pub chain_rules : Chain → Rules Block Id
 chain_rules chain = regtest chain.params.now chain.table.now

@@ -7,9 +7,9 @@ use Rattle.std.specs.List.{filter, flat_map}
 use Rattle.std.specs.Option.{option_and_then, option_map}
 use Rattle.hash.specs.declared.id.Id.{Id}
 use Rattle.block.specs.declared.block.Block.{Block}
-use Rattle.curve.specs.Known.{Known, Agrees}
-use Rattle.curve.specs.Triple.{Triple, Triples}
-use Rattle.curve.specs.laws.Growth.{Grows}
+use Rattle.signatures.specs.Known.{Known, Agrees}
+use Rattle.signatures.specs.Triple.{Triple, Triples}
+use Rattle.signatures.specs.laws.Growth.{Grows}
 use Rattle.rounds.specs.Rounds.{AreRounds, max_rounds}
 use Rattle.rounds.specs.laws.Rounds.{rounds-within, rounds-weaker}
 use Rattle.connect.specs.Scripts.{Check, script_checks}
@@ -17,10 +17,10 @@ use Rattle.rounds.specs.laws.Blocks.{block_left, block-within, block-some, block
 use Rattle.tree.specs.Branches.{block_at, down_from, parent_at, places}
 use Rattle.tree.specs.Names.{names}
 use Rattle.tree.specs.State.{State, with_block, with_call, with_mark, without_marks}
-use Rattle.chain.specs.Regtest.{setting_on}
-use Rattle.chain.specs.Step.{Request, Submit, Invalidate, Reconsider, Precious}
-use Rattle.chain.specs.declared.command.Command.{Command}
-use Rattle.chain.specs.declared.command.Command.TheVariants as command
+use Rattle.model.specs.Regtest.{setting_on}
+use Rattle.model.specs.Step.{Request, Submit, Invalidate, Reconsider, Precious}
+use Rattle.model.specs.declared.command.Command.{Command}
+use Rattle.model.specs.declared.command.Command.TheVariants as command
 use Rattle.activate.specs.CoreState.{CoreState, branch_blocks, coins_after}
 use Rattle.rounds.specs.Tries.{may_be_tried, most_tries, request_of, state_to_settle, tries_in}
 use Rattle.activate.specs.Wants.{AreJoined, AreWantedBy, AreWantedByStep, AreWantedByTried, AreWantedToSettle}

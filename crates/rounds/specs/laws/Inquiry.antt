@@ -2,9 +2,9 @@
 use Rattle.std.specs.Prelude.{if◌then◌else◌}
 use Rattle.std.proofs.Common.{◌≡◌, ◌≢◌, ℕ, zero, suc, ◌+◌, ◌<◌, ◌≤◌, max, Bool, true, false, Option, Some, None, refl, ap, ◌∙◌, arith}
 use Rattle.std.proofs.Math.Nat.{le-max_left, le-max_right, max-le}
-use Rattle.curve.specs.Known.{Known}
-use Rattle.curve.specs.Triple.{Triple}
-use Rattle.curve.specs.laws.Growth.{Grows}
+use Rattle.signatures.specs.Known.{Known}
+use Rattle.signatures.specs.Triple.{Triple}
+use Rattle.signatures.specs.laws.Growth.{Grows}
 use Rattle.interp.specs.Answer.{Answer, Says, Wants, answer_map, on_some, and_then, also}
 
 -- the end, or a signature that is asked for, and what follows where it is valid and where it isn't

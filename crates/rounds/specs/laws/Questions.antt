@@ -5,8 +5,8 @@ use Rattle.std.proofs.lemmas.Bool.{cases_lt}
 use Rattle.std.proofs.lemmas.List.{length-take-le}
 use borrow.Author.Tests.{lt-ltb, le-ltb}
 use Rattle.std.specs.Option.{option_map, option_and_then}
-use Rattle.curve.specs.Known.{Known}
-use Rattle.curve.specs.Triple.{Triple}
+use Rattle.signatures.specs.Known.{Known}
+use Rattle.signatures.specs.Triple.{Triple}
 use Rattle.interp.specs.Answer.{Answer, Says, answer_map}
 use Rattle.interp.specs.Limits.{max_ops, max_keys}
 use Rattle.interp.specs.Question.{Question}

@@ -8,8 +8,8 @@ use Rattle.hex.specs.Hex.{encode_lower}
 use Rattle.json.specs.Json.{Json, null, array, number, object, Members, no_members, member}
 use Rattle.hash.specs.Id.{hex_of_id}
 use Rattle.hash.specs.declared.id.Id.{Id}
-use Rattle.curve.specs.Lines.{lines}
-use Rattle.curve.specs.Triple.{Triple}
+use Rattle.signatures.specs.Lines.{lines}
+use Rattle.signatures.specs.Triple.{Triple}
 use Rattle.txn.specs.declared.outpoint.OutPoint.{OutPoint}
 use Rattle.block.specs.declared.block.Block.{Block}
 use Rattle.block.specs.BlockOfBytes.{block_of_bytes}
@@ -20,13 +20,13 @@ use Rattle.coins.specs.declared.coin.Coin.{Coin}
 use Rattle.tree.specs.Branches.{Blocks, block_at, height, place_of}
 use Rattle.tree.specs.Names.{names}
 use Rattle.tree.specs.declared.tip.Tip.{Tip}
-use Rattle.chain.specs.ReplyText.{text_of_submit, text_of_mark}
-use Rattle.chain.specs.declared.command.Command.{Command}
-use Rattle.chain.specs.declared.entry.Entry.{Entry}
-use Rattle.chain.specs.declared.command.Command.TheVariants as command
-use Rattle.chain.specs.declared.reply.MarkReply.{MarkReply}
-use Rattle.chain.specs.declared.reply.SubmitReply.{SubmitReply}
-use Rattle.chain.specs.declared.reply.Reply.TheVariants as reply
+use Rattle.model.specs.ReplyText.{text_of_submit, text_of_mark}
+use Rattle.model.specs.declared.command.Command.{Command}
+use Rattle.model.specs.declared.entry.Entry.{Entry}
+use Rattle.model.specs.declared.command.Command.TheVariants as command
+use Rattle.model.specs.declared.reply.MarkReply.{MarkReply}
+use Rattle.model.specs.declared.reply.SubmitReply.{SubmitReply}
+use Rattle.model.specs.declared.reply.Reply.TheVariants as reply
 use Rattle.activate.specs.Lookups.{ancestor_of, fork_of, height_of}
 use Rattle.node.specs.declared.answer.Stamped.{Stamped}
 use Rattle.node.specs.declared.answer.UnspentOutput.{UnspentOutput}

@@ -8,7 +8,7 @@ use Rattle.hash.specs.Id.{hex_of_id}
 use Rattle.hash.specs.declared.id.Id.{Id}
 use Rattle.txn.specs.declared.outpoint.OutPoint.{OutPoint}
 use Rattle.coins.specs.declared.coin.Coin.{Coin}
-use Rattle.chain.specs.declared.entry.Entry.{Entry}
+use Rattle.model.specs.declared.entry.Entry.{Entry}
 use Rattle.journal.specs.Line.{asked_of, named_by, when_of, word_of, text_of_answer}
 use Rattle.serving.specs.Answers.{text, count, now_of}
 use Rattle.server.specs.declared.lists.EntryText.{EntryText}

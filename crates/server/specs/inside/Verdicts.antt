@@ -1,7 +1,7 @@
 -- Verdicts that the lines of a table's text tell.
 use Rattle.std.specs.Prelude.{◌≡◌, ◌⊎◌, ℕ, Bool, List, [], ◌∷◌, slice_get, Option, None, Some, Result, Ok, Err}
-use Rattle.curve.specs.Lines.{Spells, words}
-use Rattle.curve.specs.Triple.{Triple}
+use Rattle.signatures.specs.Lines.{Spells, words}
+use Rattle.signatures.specs.Triple.{Triple}
 use Rattle.node.specs.declared.answer.Learning.TheVariants.{Contradicted}
 use Rattle.node.specs.declared.fault.Fault.{Fault}
 use Rattle.node.specs.declared.fault.Fault.TheVariants.{Memory}

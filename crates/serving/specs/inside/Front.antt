@@ -4,7 +4,7 @@ use Rattle.json.specs.Token.{Token, begin_object, key, string}
 use Rattle.json.specs.Tree.{json_tokens}
 use Rattle.json.specs.Json.{object}
 use Rattle.hash.specs.Id.{hex_of_id}
-use Rattle.curve.specs.Triple.{Triple}
+use Rattle.signatures.specs.Triple.{Triple}
 use Rattle.tree.specs.declared.tip.Tip.{Tip}
 use Rattle.serving.specs.Answers.{id_json, text, coin_members, spent_members, tip_members, step_members, triple_line}
 use Rattle.serving.specs.declared.answer.CoinAt.{CoinAt}

@@ -2,7 +2,7 @@
 use Rattle.std.specs.Prelude.{◌≡◌, ◌<◌, ◌^◌, ℕ, List, [], ◌∷◌, ◌++◌, length}
 use mathlib.Core.List.{IsPrefix}
 use Rattle.logbook.specs.Pages.{Step, View}
-use Rattle.chain.specs.declared.entry.Entry.{Entry}
+use Rattle.model.specs.declared.entry.Entry.{Entry}
 use Rattle.view.specs.HistoryPrefix.{Beginning}
 use Rattle.view.specs.declared.publication.NoPlace.{NoPlace}
 use Rattle.view.specs.declared.publication.NoPlace.TheVariants.{Taken, Full}

@@ -6,26 +6,26 @@ use Rattle.std.specs.Option.{option_to_list}
 use Rattle.std.specs.FinMap as coin_map
 use Rattle.logbook.specs.Pages.{Book}
 use Rattle.block.specs.declared.block.Block.{Block}
-use Rattle.curve.specs.Triple.{Triples}
-use Rattle.curve.specs.Known.{Agrees, Verdicts, Under}
+use Rattle.signatures.specs.Triple.{Triples}
+use Rattle.signatures.specs.Known.{Agrees, Verdicts, Under}
 use Rattle.coins.specs.Changes.{after_changes}
 use Rattle.coins.specs.laws.Changes.{laid-changes}
 use Rattle.tree.specs.Branches.{height}
 use Rattle.tree.specs.Limits.{max_blocks}
 use Rattle.tree.specs.State.{State, opening}
 use Rattle.tree.specs.Tips.{tip_of_id}
-use Rattle.chain.specs.declared.reply.Reply.{Reply}
-use Rattle.chain.specs.declared.entry.Entry.{Entry}
-use Rattle.chain.specs.History.{Answers, Stands, entry_of, state_after_entries}
-use Rattle.chain.specs.Learnt.{AreNews, IsNews, found_by, found_in, known_by, none_found}
-use Rattle.chain.specs.Regtest.{ledger, regtest}
-use Rattle.chain.specs.Replay.{coins, coins_at}
-use Rattle.chain.specs.Settle.{active}
-use Rattle.chain.specs.laws.Actives.{active_kept}
-use Rattle.chain.specs.laws.Coins.{coins-genesis}
-use Rattle.chain.specs.laws.History.{state_after-append, legal_push, legal_front, stands_within}
-use Rattle.chain.specs.laws.Learnt.{found_in-push, are_news-push, are_news-front, are_news-rest, found_from-append}
-use Rattle.chain.specs.laws.Steps.{opening_sound}
+use Rattle.model.specs.declared.reply.Reply.{Reply}
+use Rattle.model.specs.declared.entry.Entry.{Entry}
+use Rattle.model.specs.History.{Answers, Stands, entry_of, state_after_entries}
+use Rattle.model.specs.Learnt.{AreNews, IsNews, found_by, found_in, known_by, none_found}
+use Rattle.model.specs.Regtest.{ledger, regtest}
+use Rattle.model.specs.Replay.{coins, coins_at}
+use Rattle.model.specs.Settle.{active}
+use Rattle.model.specs.laws.Actives.{active_kept}
+use Rattle.model.specs.laws.Coins.{coins-genesis}
+use Rattle.model.specs.laws.History.{state_after-append, legal_push, legal_front, stands_within}
+use Rattle.model.specs.laws.Learnt.{found_in-push, are_news-push, are_news-front, are_news-rest, found_from-append}
+use Rattle.model.specs.laws.Steps.{opening_sound}
 use Rattle.view.specs.declared.chain_info.ChainInfo.{ChainInfo}
 use Rattle.view.specs.declared.publication.Publication.{Publication}
 use Rattle.view.specs.Origin.{Origin, known_in, machine}

@@ -10,11 +10,11 @@ use Rattle.connect.specs.Turns.{effect}
 use Rattle.connect.specs.laws.Scripts.{fault-found}
 use Rattle.tree.specs.Branches.{Blocks, parent_at, height}
 use Rattle.tree.specs.laws.Parents.{height-parent}
-use Rattle.chain.specs.Regtest.{medians_of, regtest}
+use Rattle.model.specs.Regtest.{medians_of, regtest}
 use Rattle.activate.specs.CoreState.{branch_blocks}
 use Rattle.activate.specs.laws.WalkUp.{length-parent, setting-next, setting_under, fault-next, undo-next, coins-next, medians-next}
-use Rattle.chain.specs.laws.Kept.{alone-at}
-use Rattle.chain.specs.laws.Medians.{length-medians}
+use Rattle.model.specs.laws.Kept.{alone-at}
+use Rattle.model.specs.laws.Medians.{length-medians}
 use Rattle.std.proofs.lemmas.Result.{err_from_is_err_and}
 use Rattle.activate.proofs.WantsOfBlocks.{either_way, wanted_at}
 use Rattle.activate.proofs.ascent.connect_tip.Goals as goal

@@ -2,13 +2,13 @@ use Rattle.std.proofs.Common.{◌≡◌, ℕ, ◌+◌, ◌-◌, ◌≤◌, List,
 use Rattle.std.specs.Prelude.{IfSome, MatchOption}
 use Rattle.std.proofs.lemmas.List.{drop_all, reverse-append}
 use Rattle.block.specs.declared.block.Block.{Block}
-use Rattle.curve.specs.Known.{Known}
-use Rattle.curve.specs.Triple.{Triple}
+use Rattle.signatures.specs.Known.{Known}
+use Rattle.signatures.specs.Triple.{Triple}
 use Rattle.rules.specs.declared.params.Params.{Params}
 use Rattle.tree.specs.Branches.{Blocks, on}
 use Rattle.coins.specs.declared.coin.Coin.{Coin}
-use Rattle.chain.specs.Valid.{fault, branch_connects}
-use Rattle.chain.specs.Regtest.{medians_of, regtest}
+use Rattle.model.specs.Valid.{fault, branch_connects}
+use Rattle.model.specs.Regtest.{medians_of, regtest}
 use Rattle.activate.specs.CoreState.{branch_blocks, coins_after}
 use Rattle.activate.specs.Lookups.{undo_at}
 use Rattle.activate.specs.Wants.{AreWantedAt}

@@ -1,8 +1,8 @@
 use Rattle.std.proofs.Common.{◌≡◌, ◌-◌, true, length, map, reverse, drop, None}
 use Rattle.std.specs.Prelude.{IfSome}
-use Rattle.curve.specs.Known.{Under}
-use Rattle.chain.specs.Valid.{branch_connects}
-use Rattle.chain.specs.Regtest.{regtest}
+use Rattle.signatures.specs.Known.{Under}
+use Rattle.model.specs.Valid.{branch_connects}
+use Rattle.model.specs.Regtest.{regtest}
 use Rattle.activate.specs.Lookups.{undo_at}
 use Rattle.activate.specs.Wants.{AreJoined}
 use Rattle.activate.specs.inside.Ascents.{top_of, AreWantedAbove, IsApplied}

@@ -1,7 +1,7 @@
 use Rattle.std.proofs.Common.{Some, None, sym, ◌∙◌}
 use Rattle.tree.specs.laws.AddedBlock.{place-bound}
 use Rattle.tree.specs.Names.{names}
-use Rattle.chain.specs.laws.Findings.{fault_alone, fault_orphan, fault_invalid, fault_context}
+use Rattle.model.specs.laws.Findings.{fault_alone, fault_orphan, fault_invalid, fault_context}
 use Rattle.activate.proofs.block_faults.fault_or_parent.Goals as goal
 
 pub returns-in-Some-clause-fault : goal.returns-in-Some-clause-fault

@@ -1,8 +1,8 @@
 use Rattle.std.proofs.Common.{sym, ap, ◌∙◌, subst}
-use Rattle.chain.specs.Settle.{active}
-use Rattle.chain.specs.Regtest.{AreNotNegative, regtest}
-use Rattle.chain.specs.laws.Actives.{active_kept}
-use Rattle.chain.specs.laws.Values.{not_negative-at}
+use Rattle.model.specs.Settle.{active}
+use Rattle.model.specs.Regtest.{AreNotNegative, regtest}
+use Rattle.model.specs.laws.Actives.{active_kept}
+use Rattle.model.specs.laws.Values.{not_negative-at}
 use Rattle.activate.specs.CoreState.{coins_after}
 use Rattle.activate.proofs.laws.no_coin_of_a_chainstate_is_worth_less_than_nothing.Goals as goal
 

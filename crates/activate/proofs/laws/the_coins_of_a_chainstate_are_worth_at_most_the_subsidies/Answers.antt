@@ -2,12 +2,12 @@ use Rattle.std.proofs.Common.{pos, ◌≤ℤ◌, sym, ap, ◌∙◌, subst}
 use Rattle.block.specs.Reward.{subsidy_of}
 use Rattle.coins.specs.Coins.{Coins, total}
 use Rattle.tree.specs.Branches.{height}
-use Rattle.chain.specs.Settle.{active}
-use Rattle.chain.specs.Total.{subsidies}
-use Rattle.chain.specs.Regtest.{ledger, regtest}
-use Rattle.chain.specs.laws.Actives.{active_kept, active_valid}
-use Rattle.chain.specs.laws.Bound.{bounded}
-use Rattle.chain.specs.laws.Coins.{total-valid}
+use Rattle.model.specs.Settle.{active}
+use Rattle.model.specs.Total.{subsidies}
+use Rattle.model.specs.Regtest.{ledger, regtest}
+use Rattle.model.specs.laws.Actives.{active_kept, active_valid}
+use Rattle.model.specs.laws.Bound.{bounded}
+use Rattle.model.specs.laws.Coins.{total-valid}
 use Rattle.activate.specs.CoreState.{coins_after}
 use Rattle.activate.proofs.laws.the_coins_of_a_chainstate_are_worth_at_most_the_subsidies.Goals as goal
 

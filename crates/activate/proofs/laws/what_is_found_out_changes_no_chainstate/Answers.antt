@@ -1,4 +1,4 @@
-use Rattle.curve.specs.laws.Growth.{agrees-with-less}
+use Rattle.signatures.specs.laws.Growth.{agrees-with-less}
 use Rattle.activate.proofs.laws.what_is_found_out_changes_no_chainstate.Goals as goal
 
 pub returns : goal.returns

@@ -1,10 +1,10 @@
 use Rattle.std.proofs.Common.{◌≡◌, sym, ap, ◌∙◌}
-use Rattle.curve.specs.Triple.{Triples}
+use Rattle.signatures.specs.Triple.{Triples}
 use Rattle.tree.specs.Branches.{id_at}
 use Rattle.tree.specs.Names.{names}
 use Rattle.tree.specs.Tips as tree_tips
-use Rattle.chain.specs.Regtest.{regtest}
-use Rattle.chain.specs.Settle.{active, best}
+use Rattle.model.specs.Regtest.{regtest}
+use Rattle.model.specs.Settle.{active, best}
 use Rattle.activate.specs.CoreState.{CoreState, Follows, coins_after}
 use Rattle.activate.proofs.laws.what_is_read_is_the_same_under_each_set.Goals as goal
 

@@ -9,7 +9,7 @@ use Rattle.tree.specs.laws.Branches.{on-bounds}
 use Rattle.tree.specs.laws.Parents.{parent-kept}
 use Rattle.tree.specs.laws.Above.{OnWay, above-part}
 use Rattle.activate.specs.declared.path.FailedTry.{FailedTry}
-use Rattle.chain.specs.Rules.{Rules}
+use Rattle.model.specs.Rules.{Rules}
 use Rattle.activate.specs.inside.Paths.{FailsAt}
 use Rattle.activate.specs.inside.Preparation.{IsFailedTry}
 use Rattle.activate.specs.laws.TryNotes.{above-on, flaw_noted}

@@ -3,7 +3,7 @@ use Rattle.std.specs.List.{zip}
 use Rattle.std.specs.Prelude.{IfSome}
 use Rattle.std.proofs.lemmas.Result.{err_from_is_err_and}
 use Rattle.txn.specs.declared.reason.Reason.TheVariants.{ScriptRefused}
-use Rattle.curve.specs.Known.{Agrees}
+use Rattle.signatures.specs.Known.{Agrees}
 use Rattle.interp.specs.declared.flags.Flags.{Flags}
 use Rattle.interp.specs.declared.job.Job.{Job}
 use Rattle.interp.specs.Question.{question_of}

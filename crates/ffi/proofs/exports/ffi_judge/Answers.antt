@@ -1,5 +1,5 @@
 use Rattle.std.proofs.Common.{sym}
-use Rattle.chain.specs.declared.command.Command.TheVariants as command
+use Rattle.model.specs.declared.command.Command.TheVariants as command
 use Rattle.ffi.proofs.Sessions.{none-to-judge}
 use Rattle.ffi.proofs.exports.ffi_judge.Goals as goal
 

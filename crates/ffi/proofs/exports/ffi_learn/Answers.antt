@@ -1,6 +1,6 @@
 use Rattle.std.proofs.Common.{subst}
 use Rattle.std.specs.Prelude.{◌==◌, not}
-use Rattle.curve.specs.Triple.{triple_of}
+use Rattle.signatures.specs.Triple.{triple_of}
 use Rattle.ffi.specs.Answers.{IsLearnt}
 use Rattle.ffi.proofs.exports.ffi_learn.Goals as goal
 

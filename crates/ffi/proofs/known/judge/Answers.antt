@@ -2,7 +2,7 @@
 use Rattle.std.specs.Prelude.{◌↔◌, IsTrue, IfOk}
 use Rattle.std.proofs.Common.{sym, subst}
 use Rattle.std.proofs.lemmas.Result.{IfOk-weaker}
-use Rattle.curve.specs.Known.{Under, verdict_in}
+use Rattle.signatures.specs.Known.{Under, verdict_in}
 use Rattle.interp.specs.declared.flags.Flags.{Flags}
 use Rattle.interp.specs.Rules.{Accepts}
 use Rattle.interp.specs.laws.Answers.{tells-says, tells-stops}

@@ -1,6 +1,6 @@
 -- The transaction that was in the slot is the one that is asked.
 use Rattle.std.proofs.Common.{subst}
-use Rattle.curve.specs.Lines.{lines}
+use Rattle.signatures.specs.Lines.{lines}
 use Rattle.sighash.specs.declared.precomputed_tx.PrecomputedTx.{PrecomputedTx}
 use Rattle.ffi.specs.NamedFailures.{IsInputNamed, told_of}
 use Rattle.ffi.proofs.parsed_transaction.ffi_tx_verify_input.Goals as goal

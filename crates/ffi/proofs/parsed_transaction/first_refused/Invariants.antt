@@ -1,6 +1,6 @@
 -- The inputs before this one may spend their scripts.
 use Rattle.std.proofs.Common.{◌≡◌, drop}
-use Rattle.curve.specs.Known.{verdict_in}
+use Rattle.signatures.specs.Known.{verdict_in}
 use Rattle.ffi.specs.NamedFailures.{flags_in}
 use Rattle.ffi.specs.ParsedTransaction.{first_refused}
 use Rattle.ffi.proofs.parsed_transaction.first_refused.Given as goal

@@ -1,6 +1,6 @@
 -- The triple is the one behind the box.
 use Rattle.std.proofs.Common.{inl, inr, refl, ap, subst, ⊎_elim}
-use Rattle.curve.specs.Triple.{Triple}
+use Rattle.signatures.specs.Triple.{Triple}
 use Rattle.interp.specs.Answer.{unknown_in}
 use Rattle.ffi.specs.Known.{IsLineTold, asked_of}
 use Rattle.ffi.proofs.parsed_transaction.tell_refused.Goals as goal

@@ -2,7 +2,7 @@
 use Rattle.std.proofs.Common.{◌≡◌, Some, subst}
 use Rattle.std.specs.Prelude.{◌==◌, not}
 use Rattle.ffi.specs.UtxoState.{IsLearnt, UtxoState, known_by}
-use Rattle.curve.specs.Triple.{triple_of}
+use Rattle.signatures.specs.Triple.{triple_of}
 use Rattle.ffi.proofs.utxo_calls.ffi_utxo_learn.Goals as goal
 
 pub returns : goal.returns

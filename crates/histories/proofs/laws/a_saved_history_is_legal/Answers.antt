@@ -1,6 +1,6 @@
-use Rattle.curve.specs.laws.Agreement.{found_agrees}
-use Rattle.chain.specs.Chainstate.{chainstate}
-use Rattle.chain.specs.Learnt.{found_in}
+use Rattle.signatures.specs.laws.Agreement.{found_agrees}
+use Rattle.model.specs.Chainstate.{chainstate}
+use Rattle.model.specs.Learnt.{found_in}
 use Rattle.histories.specs.laws.Verdicts.{legal_without}
 use Rattle.histories.proofs.laws.a_saved_history_is_legal.Goals as goal
 

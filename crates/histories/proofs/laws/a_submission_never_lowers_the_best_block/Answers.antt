@@ -1,7 +1,7 @@
-use Rattle.chain.specs.Chainstate.{chainstate}
-use Rattle.chain.specs.History.{state_after_entries}
-use Rattle.chain.specs.Regtest.{regtest}
-use Rattle.chain.specs.laws.Steps.{opening_sound}
+use Rattle.model.specs.Chainstate.{chainstate}
+use Rattle.model.specs.History.{state_after_entries}
+use Rattle.model.specs.Regtest.{regtest}
+use Rattle.model.specs.laws.Steps.{opening_sound}
 use Rattle.histories.specs.laws.Coins.{after_holds}
 use Rattle.histories.specs.laws.Heights.{submission}
 use Rattle.histories.proofs.laws.a_submission_never_lowers_the_best_block.Goals as goal

@@ -1,4 +1,4 @@
-use Rattle.chain.specs.Chainstate.{chainstate}
+use Rattle.model.specs.Chainstate.{chainstate}
 use Rattle.histories.specs.Histories.{without_verdicts}
 use Rattle.histories.specs.laws.Replies.{replies_begin}
 use Rattle.histories.specs.laws.Verdicts.{answered_without, legal_without}

@@ -1,4 +1,4 @@
-use Rattle.chain.specs.Chainstate.{chainstate}
+use Rattle.model.specs.Chainstate.{chainstate}
 use Rattle.histories.specs.laws.Verdicts.{state_without}
 use Rattle.histories.proofs.laws.verdicts_change_no_state.Goals as goal
 

@@ -1,4 +1,4 @@
-use Rattle.chain.specs.Chainstate.{chainstate}
+use Rattle.model.specs.Chainstate.{chainstate}
 use Rattle.histories.specs.laws.Replies.{replies_begin}
 use Rattle.histories.proofs.laws.what_is_asked_says_what_is_replied.Goals as goal
 

@@ -1,6 +1,6 @@
 use Rattle.std.proofs.Common.{ap}
-use Rattle.curve.specs.Known.{all_known}
-use Rattle.curve.specs.laws.Agreement.{table_agrees}
+use Rattle.signatures.specs.Known.{all_known}
+use Rattle.signatures.specs.laws.Agreement.{table_agrees}
 use Rattle.interp.specs.Answer.{unknown_in}
 use Rattle.interp.specs.Question.{question_of}
 use Rattle.interp.specs.laws.InputVerdict.{said-right, table-says}

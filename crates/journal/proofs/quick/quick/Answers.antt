@@ -2,13 +2,13 @@ use Rattle.std.proofs.Common.{◌≡◌, ◌+◌, List, [], ◌∷◌, ◌++◌,
 use Rattle.std.proofs.lemmas.List.{at_drop_more, at_drop_all, append-nil}
 use Rattle.block.specs.declared.block.Block.{Block}
 use Rattle.rules.specs.declared.params.Params.{Params}
-use Rattle.chain.specs.declared.command.Command.{Command}
-use Rattle.chain.specs.declared.reply.Reply.{Reply}
-use Rattle.chain.specs.Submission.{Outcome}
-use Rattle.chain.specs.Commands.{outcome, replies_of}
-use Rattle.chain.specs.Regtest.{regtest}
+use Rattle.model.specs.declared.command.Command.{Command}
+use Rattle.model.specs.declared.reply.Reply.{Reply}
+use Rattle.model.specs.Submission.{Outcome}
+use Rattle.model.specs.Commands.{outcome, replies_of}
+use Rattle.model.specs.Regtest.{regtest}
 use Rattle.activate.specs.CoreState.{IsChainstate, WithCoins}
-use Rattle.curve.specs.laws.Agreement.{table_agrees}
+use Rattle.signatures.specs.laws.Agreement.{table_agrees}
 use Rattle.connect.specs.laws.AtTable.{at_table}
 use Rattle.journal.proofs.quick.quick.Goals as goal
 

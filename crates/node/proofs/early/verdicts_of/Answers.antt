@@ -1,6 +1,6 @@
 use Rattle.std.proofs.Common.{rules, ◌≡◌, ◌∙◌, Some, sym, ap, subst}
-use Rattle.curve.specs.Known.{Known, all_known, verdict_in}
-use Rattle.curve.specs.laws.Growth.{Grows}
+use Rattle.signatures.specs.Known.{Known, all_known, verdict_in}
+use Rattle.signatures.specs.laws.Growth.{Grows}
 use Rattle.queue.specs.Jobs.{known_of, known_then}
 use Rattle.view.specs.Origin.{known_in}
 use Rattle.node.proofs.Growth.{listed_early}

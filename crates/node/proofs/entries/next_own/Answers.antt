@@ -1,7 +1,7 @@
 use Rattle.std.proofs.Common.{◌≡◌, ap, sym, ◌∙◌}
 use Rattle.std.specs.Option.{is_some}
 use Rattle.std.proofs.lemmas.Option.{get_or_from_slice_get}
-use Rattle.chain.specs.declared.entry.Entry.{Entry}
+use Rattle.model.specs.declared.entry.Entry.{Entry}
 use Rattle.node.proofs.OwnEntries.{own_next}
 use Rattle.node.proofs.entries.next_own.Goals.{then-is_some-via-then-is_some, then-is_some-via-else-is_some+in_ok-get+then-not-is_same_command}
 use Rattle.node.proofs.entries.next_own.Goals as goal

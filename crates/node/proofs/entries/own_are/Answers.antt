@@ -1,8 +1,8 @@
 use Rattle.std.proofs.Common.{◌≡◌, ◌+◌, ◌++◌, ◌∷◌, [], List, take, drop, map, ap, sym, ◌∙◌, arith}
 use Rattle.std.proofs.lemmas.List.{take_more, take-append-drop}
-use Rattle.chain.specs.declared.entry.Entry.{Entry}
-use Rattle.chain.specs.History.{own_of}
-use Rattle.chain.specs.laws.History.{own_of-append}
+use Rattle.model.specs.declared.entry.Entry.{Entry}
+use Rattle.model.specs.History.{own_of}
+use Rattle.model.specs.laws.History.{own_of-append}
 use Rattle.node.specs.Pass.{owed_entry}
 use Rattle.node.proofs.entries.own_are.Goals as goal
 

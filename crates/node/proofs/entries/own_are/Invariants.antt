@@ -1,5 +1,5 @@
 use Rattle.std.proofs.Common.{◌≡◌, ◌≤◌, length, take, map}
-use Rattle.chain.specs.History.{own_of}
+use Rattle.model.specs.History.{own_of}
 use Rattle.node.specs.Pass.{owed_entry}
 use Rattle.node.proofs.entries.own_are.Given as goal
 

@@ -1,5 +1,5 @@
 use Rattle.std.proofs.Common.{List, refl, sym, subst}
-use Rattle.chain.specs.declared.entry.Entry.{Entry}
+use Rattle.model.specs.declared.entry.Entry.{Entry}
 use Rattle.node.specs.Pass.{IsLonger}
 use Rattle.node.specs.laws.Runs.{longer_turned}
 use Rattle.node.proofs.laws.notes_are_calls.Goals as goal

@@ -1,7 +1,7 @@
 use Rattle.std.proofs.Common.{◌≡◌, ◌-◌, List, ap, subst, ◌∙◌, drop, take, min, length, arith}
 use Rattle.std.specs.Prelude.{IfOk}
 use Rattle.std.proofs.lemmas.List.{take_all, take_min, drop_min, length-drop}
-use Rattle.chain.specs.declared.entry.Entry.{Entry}
+use Rattle.model.specs.declared.entry.Entry.{Entry}
 use Rattle.node.proofs.reads.entries.Goals as goal
 
 pub returns : goal.returns

@@ -1,4 +1,4 @@
-use Rattle.curve.specs.laws.Agreement.{table_agrees}
+use Rattle.signatures.specs.laws.Agreement.{table_agrees}
 use Rattle.connect.specs.laws.AtTable.{at_table}
 use Rattle.activate.specs.CoreState.{Follows}
 use Rattle.player.proofs.chainstates.step_over.Goals as goal

@@ -1,6 +1,6 @@
 use Rattle.std.proofs.Common.{rules, ◌≡◌, length, map, sym, ap, subst, ◌∙◌, arith}
 use Rattle.std.proofs.lemmas.Result.{IfOk-weaker}
-use Rattle.curve.specs.Known.{all_known, verdict_in}
+use Rattle.signatures.specs.Known.{all_known, verdict_in}
 use Rattle.interp.specs.Question.{question_of}
 use Rattle.queue.specs.Jobs.{answers_to, known_of, questions}
 use Rattle.queue.specs.inside.KnownAnswers.{AreTheirWants}

@@ -2,7 +2,7 @@ use Rattle.std.proofs.Common.{◌≡◌, [], List, sym, subst, ◌∙◌, arith}
 use Rattle.std.specs.Prelude.{All, None, vec_len}
 use Rattle.std.proofs.lemmas.List.{nil_from_length}
 use borrow.Author.Tests.{eqb-true}
-use Rattle.curve.specs.Triple.{Triple}
+use Rattle.signatures.specs.Triple.{Triple}
 use Rattle.queue.specs.Jobs.{verdict_at}
 use Rattle.queue.specs.laws.FirstFailure.{all-wanted}
 use Rattle.queue.proofs.Walks.{want-unknown, yes-below}

@@ -1,6 +1,6 @@
 use Rattle.std.proofs.Common.{◌≡◌, ℕ, ◌+◌, ◌-◌, ◌<◌, ◌≤◌, false, List, Option, length, reverse, take, drop, get_or, Some, None, sym, ap, ◌∙◌, arith}
 use Rattle.std.proofs.lemmas.List.{length-map, length-reverse, length-take-le, get_or-map, get_or_default}
-use Rattle.curve.specs.Triple.{Triples}
+use Rattle.signatures.specs.Triple.{Triples}
 use Rattle.txn.specs.declared.reason.Reason.{Reason}
 use Rattle.rules.specs.declared.params.Params.{Params}
 use Rattle.block.specs.declared.block.Block.{Block}
@@ -10,10 +10,10 @@ use Rattle.connect.specs.computed.Scripts.{connect_fault}
 use Rattle.rules.specs.Params.{at}
 use Rattle.reference.specs.declared.kept_block.KeptBlock.{KeptBlock}
 use Rattle.reference.specs.declared.branch_replay.Trial.TheVariants.{Valid}
-use Rattle.chain.specs.Replay.{replay}
-use Rattle.chain.specs.Regtest.{medians_of, ledger, regtest}
+use Rattle.model.specs.Replay.{replay}
+use Rattle.model.specs.Regtest.{medians_of, ledger, regtest}
 use Rattle.reference.specs.inside.Replay.{block_in, blocks_in, first_kept, is_valid, trial_after, trial_on}
-use Rattle.chain.specs.laws.Medians.{length-medians}
+use Rattle.model.specs.laws.Medians.{length-medians}
 use Rattle.reference.proofs.BranchReplay.{first_replay, first_trial, next_replay, next_trial, ends}
 use Rattle.reference.proofs.branch_replay.connect_all.Goals as goal
 

@@ -1,7 +1,7 @@
 use Rattle.std.proofs.Common.{◌≡◌, ◌-◌, length, drop}
 use Rattle.reference.specs.declared.branch_replay.Trial.TheVariants.{Valid}
-use Rattle.chain.specs.Replay.{replay}
-use Rattle.chain.specs.Regtest.{ledger}
+use Rattle.model.specs.Replay.{replay}
+use Rattle.model.specs.Regtest.{ledger}
 use Rattle.reference.specs.inside.Replay.{chain_rules, blocks_in, trial_on}
 use Rattle.reference.proofs.branch_replay.connect_all.Given as goal
 

@@ -2,7 +2,7 @@ use Rattle.std.proofs.Common.{Some, None, subst}
 use Rattle.std.specs.Result.{result_err}
 use Rattle.connect.specs.BlockContext.{setting}
 use Rattle.connect.specs.Scripts.{IsConnectFault}
-use Rattle.curve.specs.laws.Agreement.{table_agrees}
+use Rattle.signatures.specs.laws.Agreement.{table_agrees}
 use Rattle.connect.specs.laws.Scripts.{fault-found}
 use Rattle.reference.proofs.branch_replay.connect_next.Goals as goal
 

@@ -3,8 +3,8 @@ use Rattle.std.proofs.lemmas.List.{length-map, length-reverse, get_or_read}
 use Rattle.coins.specs.Coins.{Coins}
 use Rattle.rules.specs.Params.{at}
 use Rattle.connect.specs.computed.Scripts.{connect_fault}
-use Rattle.chain.specs.Regtest.{medians_of, regtest}
-use Rattle.chain.specs.laws.Medians.{length-medians}
+use Rattle.model.specs.Regtest.{medians_of, regtest}
+use Rattle.model.specs.laws.Medians.{length-medians}
 use Rattle.reference.specs.declared.branch_replay.Trial.TheVariants.{Valid}
 use Rattle.reference.specs.declared.kept_block.KeptBlock.{KeptBlock}
 use Rattle.reference.specs.inside.Replay.{block_in, blocks_in, is_valid, trial_after, trial_on}

@@ -1,14 +1,14 @@
 use Rattle.std.proofs.Common.{◌≡◌, ℕ, ◌-◌, true, false, ◌&&◌, length, sym, ap, ◌∙◌, subst, inl, arith}
-use Rattle.curve.specs.Triple.{Triples}
+use Rattle.signatures.specs.Triple.{Triples}
 use Rattle.rules.specs.declared.params.Params.{Params}
 use Rattle.block.specs.declared.block.Block.{Block}
 use Rattle.tree.specs.State.{State, beats}
 use Rattle.tree.specs.Sound.{IsBest}
 use Rattle.tree.specs.laws.Best.{best_next}
-use Rattle.chain.specs.Settle.{can_be_active}
-use Rattle.chain.specs.Regtest.{regtest}
+use Rattle.model.specs.Settle.{can_be_active}
+use Rattle.model.specs.Regtest.{regtest}
 use Rattle.reference.specs.inside.Replay.{AreJudgements, judgement_in, no_judgement, above}
-use Rattle.chain.specs.laws.Actives.{active_only, can_from, valid-genesis}
+use Rattle.model.specs.laws.Actives.{active_only, can_from, valid-genesis}
 use Rattle.reference.proofs.States.{can-is, above-is}
 use Rattle.reference.proofs.judgement.best_of.Goals.{then-beats, else-beats}
 use Rattle.reference.proofs.judgement.best_of.Goals as goal

@@ -1,11 +1,11 @@
 use Rattle.std.proofs.Common.{◌≡◌, ◌-◌, ◌<◌, true, length}
-use Rattle.curve.specs.Triple.{Triples}
+use Rattle.signatures.specs.Triple.{Triples}
 use Rattle.rules.specs.declared.params.Params.{Params}
 use Rattle.block.specs.declared.block.Block.{Block}
 use Rattle.tree.specs.State.{State, has_no_mark}
 use Rattle.tree.specs.Sound.{IsBest}
-use Rattle.chain.specs.Settle.{can_be_active}
-use Rattle.chain.specs.Regtest.{regtest}
+use Rattle.model.specs.Settle.{can_be_active}
+use Rattle.model.specs.Regtest.{regtest}
 use Rattle.reference.specs.inside.Replay.{AreJudgements}
 use Rattle.reference.proofs.judgement.best_of.Given as goal
 

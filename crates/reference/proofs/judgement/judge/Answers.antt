@@ -7,7 +7,7 @@ use Rattle.tree.specs.laws.Branches.{height-genesis}
 use Rattle.tree.specs.laws.Parents.{branch-parent, height-parent, height-place}
 use Rattle.hash.specs.declared.id.Id.{Id}
 use Rattle.block.specs.declared.block.Block.{Block}
-use Rattle.chain.specs.Rules.{Rules}
+use Rattle.model.specs.Rules.{Rules}
 use Rattle.reference.specs.declared.branch_replay.Trial.{Trial}
 use Rattle.reference.specs.declared.branch_replay.Trial.TheVariants.{Valid}
 use Rattle.reference.specs.declared.judgement.Judgement.{Judgement}

@@ -2,11 +2,11 @@ use Rattle.std.proofs.Common.{◌+◌, List, [], ◌∷◌, ◌++◌, drop, sym,
 use Rattle.std.proofs.lemmas.List.{at_drop_more, at_drop_all, append-nil}
 use Rattle.tree.specs.State.{State}
 use Rattle.block.specs.declared.block.Block.{Block}
-use Rattle.chain.specs.declared.command.Command.{Command}
-use Rattle.chain.specs.declared.reply.Reply.{Reply}
-use Rattle.chain.specs.Submission.{Outcome}
-use Rattle.chain.specs.Commands.{outcome, replies_of}
-use Rattle.chain.specs.Regtest.{regtest}
+use Rattle.model.specs.declared.command.Command.{Command}
+use Rattle.model.specs.declared.reply.Reply.{Reply}
+use Rattle.model.specs.Submission.{Outcome}
+use Rattle.model.specs.Commands.{outcome, replies_of}
+use Rattle.model.specs.Regtest.{regtest}
 use Rattle.reference.specs.inside.Replay.{state_of_replayed}
 use Rattle.reference.proofs.replies.slow_watched.Goals as goal
 

@@ -1,7 +1,7 @@
 use Rattle.std.proofs.Common.{◌≡◌, ◌++◌, drop}
 use Rattle.tree.specs.State.{opening}
-use Rattle.chain.specs.Commands.{replies_of}
-use Rattle.chain.specs.Regtest.{regtest}
+use Rattle.model.specs.Commands.{replies_of}
+use Rattle.model.specs.Regtest.{regtest}
 use Rattle.reference.specs.inside.Replay.{IsRight, state_of_replayed}
 use Rattle.reference.proofs.replies.slow_watched.Given as goal
 

@@ -1,12 +1,12 @@
 use Rattle.std.proofs.Common.{◌≡◌, ℕ, ◌<◌, Bool, ◌&&◌, ◌||◌, List, length, sym, refl, ap, ◌∙◌, subst, arith}
 use Rattle.block.specs.declared.block.Block.{Block}
-use Rattle.curve.specs.Triple.{Triples}
+use Rattle.signatures.specs.Triple.{Triples}
 use Rattle.hash.specs.declared.id.Id.{Id}
 use Rattle.rules.specs.declared.params.Params.{Params}
 use Rattle.tree.specs.Branches.{on}
-use Rattle.chain.specs.Regtest.{regtest}
-use Rattle.chain.specs.Rules.{Rules}
-use Rattle.chain.specs.Settle.{active, settle}
+use Rattle.model.specs.Regtest.{regtest}
+use Rattle.model.specs.Rules.{Rules}
+use Rattle.model.specs.Settle.{active, settle}
 use Rattle.reference.specs.declared.kept_block.KeptBlock.{KeptBlock}
 use Rattle.reference.specs.declared.judgement.Judgement.{Judgement}
 use Rattle.reference.specs.declared.state.Replayed.{Replayed}

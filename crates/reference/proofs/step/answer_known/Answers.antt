@@ -1,8 +1,8 @@
 use Rattle.std.proofs.Common.{◌≡◌, Bool, true, false, cond, not, sym, ap, ◌∙◌, arith}
 use Rattle.std.proofs.lemmas.List.{get_or_read}
 use Rattle.tree.specs.Branches.{has}
-use Rattle.chain.specs.declared.reply.SubmitReply.TheVariants.{Duplicate, DuplicateInvalid, DuplicateInconclusive}
-use Rattle.chain.specs.Submission.{answer_known}
+use Rattle.model.specs.declared.reply.SubmitReply.TheVariants.{Duplicate, DuplicateInvalid, DuplicateInconclusive}
+use Rattle.model.specs.Submission.{answer_known}
 use Rattle.reference.specs.inside.Replay.{state_of_replayed}
 use Rattle.reference.proofs.States.{state-seen}
 use Rattle.reference.proofs.step.answer_known.Goals as goal

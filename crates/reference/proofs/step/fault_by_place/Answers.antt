@@ -2,7 +2,7 @@ use Rattle.std.proofs.Common.{◌≡◌, ℕ, suc, ◌-◌, ◌<◌, List, lengt
 use Rattle.std.proofs.lemmas.List.{length-reverse, length-map, get_or_read_under}
 use Rattle.txn.specs.First.{first_broken}
 use Rattle.block.specs.declared.block.Block.{Block}
-use Rattle.curve.specs.Triple.{Triples}
+use Rattle.signatures.specs.Triple.{Triples}
 use Rattle.rules.specs.declared.params.Params.{Params}
 use Rattle.rules.specs.Params.{at}
 use Rattle.rules.specs.Context.{context_rules}
@@ -11,10 +11,10 @@ use Rattle.tree.specs.MedianTime.{median_time_past}
 use Rattle.tree.specs.Names.{names}
 use Rattle.reference.specs.declared.kept_block.KeptBlock.{KeptBlock}
 use Rattle.reference.specs.declared.state.Replayed.{Replayed}
-use Rattle.chain.specs.Regtest.{medians_of, regtest}
+use Rattle.model.specs.Regtest.{medians_of, regtest}
 use Rattle.reference.specs.inside.Replay.{IsRight, blocks_of, blocks_in, block_in, state_of_replayed}
 use Rattle.reference.proofs.States.{branch_within, branch_long, branch_few, branch_blocks}
-use Rattle.chain.specs.laws.Medians.{length-medians}
+use Rattle.model.specs.laws.Medians.{length-medians}
 use Rattle.reference.proofs.BranchReplay.{cutoff-is}
 use Rattle.reference.proofs.step.fault_by_place.Goals as goal
 

@@ -1,6 +1,6 @@
 use Rattle.std.proofs.Common.{Some, None, sym, ◌∙◌}
 use Rattle.reference.specs.inside.Replay.{chain_rules, state_of_replayed}
-use Rattle.chain.specs.laws.Findings.{fault_alone, fault_orphan, fault_invalid, fault_context}
+use Rattle.model.specs.laws.Findings.{fault_alone, fault_orphan, fault_invalid, fault_context}
 use Rattle.reference.proofs.Steps.{find_place, place_kept}
 use Rattle.reference.proofs.step.judge.Goals as goal
 

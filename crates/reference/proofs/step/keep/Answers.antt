@@ -1,18 +1,18 @@
 use Rattle.std.proofs.Common.{◌≡◌, ℕ, suc, ◌<◌, ◌≤◌, Bool, false, List, ◌∷◌, Some, length, get_or, sym, ap, ◌∙◌, subst, arith}
 use Rattle.std.proofs.lemmas.List.{get_or_read}
-use Rattle.curve.specs.Triple.{Triples}
+use Rattle.signatures.specs.Triple.{Triples}
 use Rattle.rules.specs.declared.params.Params.{Params}
 use Rattle.tree.specs.Branches.{Blocks, has, branch, height, place_of}
 use Rattle.tree.specs.Names.{names}
 use Rattle.tree.specs.State.{State, with_block}
 use Rattle.tree.specs.laws.AddedBlock.{place-bound}
 use Rattle.block.specs.declared.block.Block.{Block}
-use Rattle.chain.specs.Regtest.{regtest}
-use Rattle.chain.specs.declared.reply.SubmitReply.TheVariants.{Accepted}
-use Rattle.chain.specs.Settle.{active, settle}
-use Rattle.chain.specs.Submission.{outcome_of_added, submit_says}
+use Rattle.model.specs.Regtest.{regtest}
+use Rattle.model.specs.declared.reply.SubmitReply.TheVariants.{Accepted}
+use Rattle.model.specs.Settle.{active, settle}
+use Rattle.model.specs.Submission.{outcome_of_added, submit_says}
 use Rattle.reference.specs.inside.Replay.{AreAlone, AreJudgements, AreKeptBlocks, IsRight, blocks_before, blocks_in, blocks_of, reply_by_trial, state_of_replayed, trial_on}
-use Rattle.chain.specs.laws.SettledState.{settle-blocks}
+use Rattle.model.specs.laws.SettledState.{settle-blocks}
 use Rattle.reference.specs.declared.branch_replay.Trial.{Trial}
 use Rattle.reference.specs.declared.judgement.Judgement.{Judgement}
 use Rattle.reference.specs.declared.kept_block.KeptBlock.{KeptBlock}

@@ -2,15 +2,15 @@ use Rattle.std.proofs.Common.{◌≡◌, List, length, Some, None, sym, ap, ◌�
 use Rattle.block.specs.declared.block.Block.{Block}
 use Rattle.tree.specs.Branches.{height}
 use Rattle.tree.specs.State.{State}
-use Rattle.chain.specs.declared.reply.MarkReply.TheVariants.{Done}
+use Rattle.model.specs.declared.reply.MarkReply.TheVariants.{Done}
 use Rattle.reference.specs.declared.judgement.Judgement.{Judgement}
-use Rattle.chain.specs.Settle.{active}
-use Rattle.chain.specs.Step.{mark_says}
+use Rattle.model.specs.Settle.{active}
+use Rattle.model.specs.Step.{mark_says}
 use Rattle.reference.specs.inside.Replay.{AreJudgements, chain_rules, state_of_replayed}
 use Rattle.reference.proofs.States.{count, genesis-usable, height-is}
 use Rattle.reference.proofs.step.prefer.Goals.{then-index+in_ok-call+in_ok-settle, else-index}
-use Rattle.chain.specs.laws.Steps.{step_not-found}
-use Rattle.chain.specs.laws.Findings.{prefer_done, prefer_lower}
+use Rattle.model.specs.laws.Steps.{step_not-found}
+use Rattle.model.specs.laws.Findings.{prefer_done, prefer_lower}
 use Rattle.reference.proofs.Steps.{find_place, place_kept}
 use Rattle.reference.proofs.step.prefer.Goals as goal
 

@@ -1,7 +1,7 @@
 use Rattle.std.proofs.Common.{Some, None, sym}
 use Rattle.reference.specs.inside.Replay.{chain_rules, state_of_replayed}
-use Rattle.chain.specs.laws.Steps.{step_not-found}
-use Rattle.chain.specs.laws.Findings.{reconsider_done}
+use Rattle.model.specs.laws.Steps.{step_not-found}
+use Rattle.model.specs.laws.Findings.{reconsider_done}
 use Rattle.reference.proofs.Steps.{find_place, place_kept}
 use Rattle.reference.proofs.step.reconsider.Goals as goal
 

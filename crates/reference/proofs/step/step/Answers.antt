@@ -1,8 +1,8 @@
 use Rattle.std.proofs.Common.{◌≡◌, Some, None, Err, sym, ap, ◌∙◌, subst, inl, inr}
 use Rattle.block.specs.BlockOfBytes.{block_of_bytes, Decodes}
-use Rattle.chain.specs.Commands.{outcome}
+use Rattle.model.specs.Commands.{outcome}
 use Rattle.reference.specs.inside.Replay.{chain_rules, state_of_replayed}
-use Rattle.chain.specs.laws.Outcomes.{submitted, refused, invalidates, reconsiders, prefers, learns}
+use Rattle.model.specs.laws.Outcomes.{submitted, refused, invalidates, reconsiders, prefers, learns}
 use Rattle.reference.proofs.step.step.Goals as goal
 
 pub returns-in_ok-submit-in-Ok-clause-state : goal.returns-in_ok-submit-in-Ok-clause-state

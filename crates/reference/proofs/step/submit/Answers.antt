@@ -7,16 +7,16 @@ use Rattle.tree.specs.Branches.{place_of}
 use Rattle.tree.specs.State.{State}
 use Rattle.tree.specs.Names.{names}
 use Rattle.hash.specs.declared.id.Id.{Id}
-use Rattle.chain.specs.Rules.{Rules}
-use Rattle.chain.specs.declared.reply.SubmitReply.{SubmitReply}
-use Rattle.chain.specs.Context.{first_fault}
-use Rattle.chain.specs.Submission.{Outcome, submit_says, answer_known}
-use Rattle.chain.specs.Step.{Submit, step}
-use Rattle.chain.specs.Faults.{IsNew}
+use Rattle.model.specs.Rules.{Rules}
+use Rattle.model.specs.declared.reply.SubmitReply.{SubmitReply}
+use Rattle.model.specs.Context.{first_fault}
+use Rattle.model.specs.Submission.{Outcome, submit_says, answer_known}
+use Rattle.model.specs.Step.{Submit, step}
+use Rattle.model.specs.Faults.{IsNew}
 use Rattle.reference.specs.declared.kept_block.KeptBlock.{KeptBlock}
 use Rattle.reference.specs.declared.state.Replayed.{Replayed}
 use Rattle.reference.specs.inside.Replay.{IsRight, blocks_of, chain_rules, state_of_replayed}
-use Rattle.chain.specs.laws.Steps.{step-known, step-full, step-faulty, step-added, faultless-alone}
+use Rattle.model.specs.laws.Steps.{step-known, step-full, step-faulty, step-added, faultless-alone}
 use Rattle.reference.proofs.States.{count}
 use Rattle.reference.proofs.Steps.{find_place, place_kept}
 use Rattle.reference.proofs.step.submit.Goals as goal

@@ -1,6 +1,6 @@
 use Rattle.std.specs.Prelude.{Ok}
 use Rattle.std.proofs.Common.{subst, sym, inr}
-use Rattle.curve.specs.Lines.{lines}
+use Rattle.signatures.specs.Lines.{lines}
 use Rattle.server.specs.inside.Verdicts.{AreLearnt}
 use Rattle.server.proofs.Verdicts.{learnt_so}
 use Rattle.server.proofs.by_need.learn_lines.Goals as goal

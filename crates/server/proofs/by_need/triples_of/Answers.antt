@@ -2,8 +2,8 @@ use Rattle.std.proofs.Common.{◌==◌, length, take, arith, rules}
 use Rattle.std.proofs.lemmas.Iterator.Consumers.{YieldsList-turn, YieldsList-end}
 use Rattle.std.proofs.lemmas.Iterator.Splits.{YieldsList-from_slice_split}
 use Rattle.std.proofs.lemmas.List.{length_push, take_all}
-use Rattle.curve.specs.Lines.{lines}
-use Rattle.curve.proofs.Tables.{one_more}
+use Rattle.signatures.specs.Lines.{lines}
+use Rattle.signatures.proofs.Tables.{one_more}
 use Rattle.server.proofs.Verdicts.{spelled_adds, spelled_skips}
 use Rattle.server.proofs.by_need.triples_of.Goals as goal
 

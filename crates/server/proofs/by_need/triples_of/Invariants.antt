@@ -1,6 +1,6 @@
 -- They are those of the lines so far.
 use Rattle.std.proofs.Common.{length, take}
-use Rattle.curve.specs.Lines.{lines}
+use Rattle.signatures.specs.Lines.{lines}
 use Rattle.server.specs.inside.Verdicts.{AreSpelled}
 use Rattle.server.proofs.by_need.triples_of.Given as goal
 

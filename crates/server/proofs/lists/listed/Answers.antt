@@ -1,7 +1,7 @@
 use Rattle.std.specs.Prelude.{List, map, IfOk, codes}
 use Rattle.std.proofs.Common.{◌≡◌, ◌∙◌, ap, subst, sym}
 use Rattle.json.specs.Json.{array, object, no_members, member}
-use Rattle.chain.specs.declared.entry.Entry.{Entry}
+use Rattle.model.specs.declared.entry.Entry.{Entry}
 use Rattle.serving.specs.Answers.{step_items, step_members}
 use Rattle.serving.specs.declared.answer.Step.{Step}
 use Rattle.server.specs.inside.Lists.{AreSteps, text_json}

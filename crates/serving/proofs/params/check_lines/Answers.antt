@@ -5,9 +5,9 @@ use Rattle.std.proofs.lemmas.Iterator.Splits.{YieldsList-from_slice_split}
 use Rattle.std.proofs.lemmas.List.{length_push, take_all}
 use Rattle.std.proofs.lemmas.List.Elements.{All-push}
 use Rattle.std.proofs.lemmas.Result.{err_from_is_err_and}
-use Rattle.curve.specs.Lines.{IsReadable, Spells, is_skipped, lines, words}
-use Rattle.curve.specs.Triple.{Triple}
-use Rattle.curve.proofs.Tables.{fault_from, one_more}
+use Rattle.signatures.specs.Lines.{IsReadable, Spells, is_skipped, lines, words}
+use Rattle.signatures.specs.Triple.{Triple}
+use Rattle.signatures.proofs.Tables.{fault_from, one_more}
 use Rattle.serving.proofs.params.check_lines.Goals as goal
 
 readable_by : (line : List ℕ) (triple : Option Triple) → MatchOption triple (IsTrue (is_skipped (words line))) (Spells (words line)) → IsReadable line

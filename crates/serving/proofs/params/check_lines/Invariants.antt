@@ -1,7 +1,7 @@
 -- The lines so far can be read.
 use Rattle.std.proofs.Common.{◌≡◌, length, take}
 use Rattle.std.specs.List.{All}
-use Rattle.curve.specs.Lines.{lines, IsReadable}
+use Rattle.signatures.specs.Lines.{lines, IsReadable}
 use Rattle.serving.proofs.params.check_lines.Given as goal
 
 abbrev pub invariant-loop-line : goal.invariant-loop-line

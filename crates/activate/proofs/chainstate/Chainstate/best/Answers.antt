@@ -1,6 +1,6 @@
 use Rattle.std.proofs.Common.{ap, ◌∙◌, sym, subst}
-use Rattle.chain.specs.Settle.{best}
-use Rattle.chain.specs.Regtest.{regtest}
+use Rattle.model.specs.Settle.{best}
+use Rattle.model.specs.Regtest.{regtest}
 use Rattle.activate.specs.CoreState.{Follows, WithCoins}
 use Rattle.activate.proofs.chainstate.Chainstate.best.Goals as goal
 

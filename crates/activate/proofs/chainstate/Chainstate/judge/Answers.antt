@@ -1,8 +1,8 @@
 use Rattle.std.proofs.Common.{◌≡◌, IfErr, IfOk, IfSome, ◌∙◌, sym, subst}
-use Rattle.curve.specs.Known.{Under}
-use Rattle.chain.specs.Commands.{outcome}
-use Rattle.chain.specs.PreparedCommand.{command_of}
-use Rattle.chain.specs.Regtest.{regtest}
+use Rattle.signatures.specs.Known.{Under}
+use Rattle.model.specs.Commands.{outcome}
+use Rattle.model.specs.PreparedCommand.{command_of}
+use Rattle.model.specs.Regtest.{regtest}
 use Rattle.activate.specs.CoreState.{IsChainstate, WithCoins}
 use Rattle.activate.specs.Wants.{AreWantedByStep}
 use Rattle.activate.proofs.chainstate.Chainstate.judge.Goals as goal

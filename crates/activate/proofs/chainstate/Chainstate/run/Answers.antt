@@ -3,15 +3,15 @@ use Rattle.std.proofs.lemmas.List.{at_drop_more, at_drop_all, append-nil, take_a
 use Rattle.block.specs.declared.block.Block.{Block}
 use Rattle.rules.specs.declared.params.Params.{Params}
 use Rattle.tree.specs.State.{State}
-use Rattle.chain.specs.declared.command.Command.{Command}
-use Rattle.chain.specs.declared.reply.Reply.{Reply}
-use Rattle.chain.specs.Submission.{Outcome}
-use Rattle.chain.specs.Commands.{outcome, replies_of, state_after_commands}
-use Rattle.chain.specs.Regtest.{regtest}
-use Rattle.curve.specs.laws.Agreement.{table_agrees}
+use Rattle.model.specs.declared.command.Command.{Command}
+use Rattle.model.specs.declared.reply.Reply.{Reply}
+use Rattle.model.specs.Submission.{Outcome}
+use Rattle.model.specs.Commands.{outcome, replies_of, state_after_commands}
+use Rattle.model.specs.Regtest.{regtest}
+use Rattle.signatures.specs.laws.Agreement.{table_agrees}
 use Rattle.connect.specs.laws.AtTable.{at_table}
 use Rattle.activate.specs.CoreState.{IsChainstate, WithCoins}
-use Rattle.chain.specs.laws.Outcomes.{state-more}
+use Rattle.model.specs.laws.Outcomes.{state-more}
 use Rattle.activate.proofs.chainstate.Chainstate.run.Goals as goal
 
 on_err : {V E : Type 0} {P : Type 0} (o : Result V E) → P → OnErr o P

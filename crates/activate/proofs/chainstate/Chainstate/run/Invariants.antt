@@ -1,6 +1,6 @@
 use Rattle.std.proofs.Common.{◌≡◌, ◌++◌, drop, take}
-use Rattle.chain.specs.Commands.{replies_of, state_after_commands}
-use Rattle.chain.specs.Regtest.{regtest}
+use Rattle.model.specs.Commands.{replies_of, state_after_commands}
+use Rattle.model.specs.Regtest.{regtest}
 use Rattle.activate.specs.CoreState.{IsChainstate}
 use Rattle.activate.proofs.chainstate.Chainstate.run.Given as goal
 

@@ -1,12 +1,12 @@
 use Rattle.std.proofs.Common.{◌≡◌, ap, ◌∙◌, sym, subst}
-use Rattle.curve.specs.Triple.{Triples}
+use Rattle.signatures.specs.Triple.{Triples}
 use Rattle.coins.specs.Coins.{Coins}
 use Rattle.coins.specs.Changes.{after_changes}
 use Rattle.coins.specs.laws.Changes.{laid-changes}
-use Rattle.chain.specs.Commands.{outcome}
-use Rattle.chain.specs.PreparedCommand.{command_of}
-use Rattle.chain.specs.Regtest.{regtest}
-use Rattle.chain.specs.declared.reply.Reply.{Reply}
+use Rattle.model.specs.Commands.{outcome}
+use Rattle.model.specs.PreparedCommand.{command_of}
+use Rattle.model.specs.Regtest.{regtest}
+use Rattle.model.specs.declared.reply.Reply.{Reply}
 use Rattle.activate.specs.inside.Preparation.{core_after_commit}
 use Rattle.activate.specs.CoreState.{KeepsUndo, Follows, IsChainstate, CoreState, WithCoins, coins_of}
 use Rattle.activate.proofs.Outcomes.{follows-plan}

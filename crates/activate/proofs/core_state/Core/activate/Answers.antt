@@ -5,9 +5,9 @@ use Rattle.rules.specs.declared.params.Params.{Params}
 use Rattle.coins.specs.declared.coin.Coin.{Coin}
 use Rattle.tree.specs.Branches.{Blocks}
 use Rattle.tree.specs.State.{State}
-use Rattle.chain.specs.Rules.{Rules}
-use Rattle.chain.specs.Try.{state_after_try}
-use Rattle.chain.specs.laws.Tries.{tried-blocks}
+use Rattle.model.specs.Rules.{Rules}
+use Rattle.model.specs.Try.{state_after_try}
+use Rattle.model.specs.laws.Tries.{tried-blocks}
 use Rattle.activate.specs.declared.path.BranchPath.{BranchPath}
 use Rattle.activate.specs.CoreState.{CoreState}
 use Rattle.activate.specs.Lookups.{undo_at}

@@ -1,7 +1,7 @@
 use Rattle.std.proofs.Common.{ap, ◌∙◌}
 use Rattle.tree.specs.Branches.{id_at}
 use Rattle.tree.specs.Names.{names}
-use Rattle.chain.specs.Settle.{best}
+use Rattle.model.specs.Settle.{best}
 use Rattle.activate.specs.CoreState.{CoreState}
 use Rattle.activate.proofs.core_state.Core.best.Goals as goal
 

@@ -3,9 +3,9 @@ use Rattle.hash.specs.declared.id.Id.{Id}
 use Rattle.block.specs.declared.block.Block.{Block}
 use Rattle.tree.specs.Branches.{Blocks}
 use Rattle.tree.specs.State.{State}
-use Rattle.chain.specs.Rules.{Rules}
-use Rattle.chain.specs.Try.{state_after_try}
-use Rattle.chain.specs.laws.Tries.{tried-blocks}
+use Rattle.model.specs.Rules.{Rules}
+use Rattle.model.specs.Try.{state_after_try}
+use Rattle.model.specs.laws.Tries.{tried-blocks}
 use Rattle.activate.specs.declared.path.FailedTry.{FailedTry}
 use Rattle.activate.specs.CoreState.{CoreState}
 use Rattle.activate.specs.inside.Preparation.{CanFlag, IsFailedTry}

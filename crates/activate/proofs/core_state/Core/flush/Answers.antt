@@ -1,5 +1,5 @@
 use Rattle.std.proofs.Common.{sym, ap, ◌∙◌, subst}
-use Rattle.chain.specs.Regtest.{regtest}
+use Rattle.model.specs.Regtest.{regtest}
 use Rattle.activate.specs.CoreState.{CoreState}
 use Rattle.activate.specs.inside.Preparation.{CanFinish, core_after_finish}
 use Rattle.activate.proofs.core_state.Core.flush.Goals as goal

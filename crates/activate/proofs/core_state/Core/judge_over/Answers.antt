@@ -1,6 +1,6 @@
 use Rattle.std.proofs.Common.{ap}
 use Rattle.block.specs.declared.block.Block.{Block}
-use Rattle.chain.specs.Submission.{Outcome}
+use Rattle.model.specs.Submission.{Outcome}
 use Rattle.activate.proofs.core_state.Core.judge_over.Goals as goal
 
 pub returns-clause-reply : goal.returns-clause-reply

@@ -2,8 +2,8 @@ use Rattle.std.proofs.Common.{Bool, cond, not, sym, ap, ◌∙◌}
 use Rattle.tree.specs.Branches.{has}
 use Rattle.tree.specs.State.{State, has_no_mark}
 use Rattle.block.specs.declared.block.Block.{Block}
-use Rattle.chain.specs.declared.reply.SubmitReply.TheVariants.{Duplicate, DuplicateInvalid, DuplicateInconclusive}
-use Rattle.chain.specs.Submission.{answer_known}
+use Rattle.model.specs.declared.reply.SubmitReply.TheVariants.{Duplicate, DuplicateInvalid, DuplicateInconclusive}
+use Rattle.model.specs.Submission.{answer_known}
 use Rattle.activate.proofs.core_state.Core.known.Goals as goal
 
 pub returns-then-not-usable : goal.returns-then-not-usable

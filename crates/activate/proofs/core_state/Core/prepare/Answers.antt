@@ -8,33 +8,33 @@ use Rattle.tree.specs.State.{with_block}
 use Rattle.hash.specs.declared.id.Id.{Id}
 use Rattle.block.specs.declared.block.Block.{Block}
 use Rattle.block.specs.Identity.{id_of}
-use Rattle.curve.specs.Triple.{Triples}
-use Rattle.chain.specs.Faults.{IsNew}
+use Rattle.signatures.specs.Triple.{Triples}
+use Rattle.model.specs.Faults.{IsNew}
 use Rattle.tree.specs.Branches.{place_of}
 use Rattle.tree.specs.Limits.{max_blocks}
 use Rattle.tree.specs.Names.{names}
 use Rattle.tree.specs.laws.AddedBlock.{place-bound}
-use Rattle.chain.specs.declared.reply.Reply.TheVariants as reply
-use Rattle.chain.specs.declared.reply.SubmitReply.TheVariants.{DecodeFailed, Rejected, TreeFull}
-use Rattle.chain.specs.Context.{first_fault}
-use Rattle.chain.specs.Submission.{submit_says}
-use Rattle.chain.specs.Commands.{outcome}
-use Rattle.chain.specs.Step.{Submit}
-use Rattle.chain.specs.SubmissionFacts.{IsSubmission}
-use Rattle.chain.specs.declared.command.Command.TheVariants as command
-use Rattle.chain.specs.declared.submission.SubmittedBlock.{SubmittedBlock}
-use Rattle.chain.specs.Regtest.{regtest}
+use Rattle.model.specs.declared.reply.Reply.TheVariants as reply
+use Rattle.model.specs.declared.reply.SubmitReply.TheVariants.{DecodeFailed, Rejected, TreeFull}
+use Rattle.model.specs.Context.{first_fault}
+use Rattle.model.specs.Submission.{submit_says}
+use Rattle.model.specs.Commands.{outcome}
+use Rattle.model.specs.Step.{Submit}
+use Rattle.model.specs.SubmissionFacts.{IsSubmission}
+use Rattle.model.specs.declared.command.Command.TheVariants as command
+use Rattle.model.specs.declared.submission.SubmittedBlock.{SubmittedBlock}
+use Rattle.model.specs.Regtest.{regtest}
 use Rattle.activate.specs.CoreState.{CoreState}
 use Rattle.activate.specs.Wants.{AreWantedBy, AreWantedByStep, IsToSettle}
 use Rattle.activate.proofs.WantsOfBlocks.{wanted_by}
-use Rattle.chain.specs.laws.Outcomes.{refused, submitted}
-use Rattle.chain.specs.laws.Steps.{step-known, step-full, step-faulty}
+use Rattle.model.specs.laws.Outcomes.{refused, submitted}
+use Rattle.model.specs.laws.Steps.{step-known, step-full, step-faulty}
 use Rattle.tree.specs.declared.new_block.NewBlock.{NewBlock}
 use Rattle.activate.specs.declared.plan.Prepared.{Prepared}
 use Rattle.activate.specs.declared.plan.Edit.TheVariants.{Keep}
-use Rattle.chain.specs.declared.submission.PreparedCommand.{PreparedCommand}
-use Rattle.chain.specs.declared.submission.PreparedCommand.TheVariants as asked
-use Rattle.chain.specs.PreparedCommand.{command_of}
+use Rattle.model.specs.declared.submission.PreparedCommand.{PreparedCommand}
+use Rattle.model.specs.declared.submission.PreparedCommand.TheVariants as asked
+use Rattle.model.specs.PreparedCommand.{command_of}
 use Rattle.activate.specs.inside.Preparation.{IsNoSubmission, IsPreparationFor}
 use Rattle.activate.proofs.NewBlock.{plan_new}
 use Rattle.activate.proofs.PutInPlace.{plan-still}

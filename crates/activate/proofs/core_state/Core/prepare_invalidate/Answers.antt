@@ -5,17 +5,17 @@ use Rattle.tree.specs.State.{State, with_mark}
 use Rattle.block.specs.declared.block.Block.{Block}
 use Rattle.tree.specs.laws.AddedBlock.{place-bound}
 use Rattle.activate.specs.declared.plan.Prepared.{Prepared}
-use Rattle.chain.specs.declared.reply.MarkReply.TheVariants.{Genesis, NotFound}
-use Rattle.chain.specs.declared.reply.Reply.TheVariants as reply
+use Rattle.model.specs.declared.reply.MarkReply.TheVariants.{Genesis, NotFound}
+use Rattle.model.specs.declared.reply.Reply.TheVariants as reply
 use Rattle.activate.specs.inside.Preparation.{CanTry, IsPreparationFor}
-use Rattle.chain.specs.Regtest.{regtest}
-use Rattle.chain.specs.Settle.{settle}
-use Rattle.chain.specs.Step.{Invalidate, step}
+use Rattle.model.specs.Regtest.{regtest}
+use Rattle.model.specs.Settle.{settle}
+use Rattle.model.specs.Step.{Invalidate, step}
 use Rattle.activate.specs.CoreState.{CoreState}
-use Rattle.chain.specs.laws.Steps.{step-genesis, step_not-found}
+use Rattle.model.specs.laws.Steps.{step-genesis, step_not-found}
 use Rattle.activate.proofs.Plans.{can-follows}
 use Rattle.activate.proofs.PutInPlace.{can-marked, if_ok, plan-still}
-use Rattle.chain.specs.laws.Findings.{invalidate_done}
+use Rattle.model.specs.laws.Findings.{invalidate_done}
 use Rattle.activate.proofs.WantsOfBlocks.{wanted_from}
 use Rattle.activate.proofs.core_state.Core.prepare_invalidate.Goals as goal
 

@@ -1,18 +1,18 @@
 use Rattle.std.specs.Prelude.{IfSome}
 use Rattle.std.proofs.Common.{◌≡◌, List, Option, sym, ap, ◌∙◌, subst}
 use Rattle.activate.specs.declared.plan.Prepared.{Prepared}
-use Rattle.chain.specs.declared.reply.Reply.TheVariants as reply
-use Rattle.chain.specs.declared.reply.MarkReply.TheVariants.{Done}
-use Rattle.chain.specs.Commands.{outcome}
-use Rattle.chain.specs.PreparedCommand.{command_of}
+use Rattle.model.specs.declared.reply.Reply.TheVariants as reply
+use Rattle.model.specs.declared.reply.MarkReply.TheVariants.{Done}
+use Rattle.model.specs.Commands.{outcome}
+use Rattle.model.specs.PreparedCommand.{command_of}
 use Rattle.activate.specs.inside.Preparation.{IsPreparationFor}
-use Rattle.chain.specs.Regtest.{regtest}
+use Rattle.model.specs.Regtest.{regtest}
 use Rattle.activate.specs.CoreState.{CoreState}
-use Rattle.chain.specs.laws.Outcomes.{invalidates, reconsiders, prefers, learns}
+use Rattle.model.specs.laws.Outcomes.{invalidates, reconsiders, prefers, learns}
 use Rattle.activate.proofs.PutInPlace.{if_ok, plan-still}
-use Rattle.curve.specs.Known.{Known}
-use Rattle.curve.specs.Triple.{Triple}
-use Rattle.chain.specs.declared.command.Command.{Command}
+use Rattle.signatures.specs.Known.{Known}
+use Rattle.signatures.specs.Triple.{Triple}
+use Rattle.model.specs.declared.command.Command.{Command}
 use Rattle.activate.specs.Wants.{AreWantedByStep}
 use Rattle.activate.proofs.WantsOfBlocks.{if_err}
 use Rattle.activate.proofs.core_state.Core.prepare_mark.Goals as goal

@@ -11,20 +11,20 @@ use Rattle.activate.specs.declared.plan.Settled.{Settled}
 use Rattle.activate.specs.inside.Paths.{IsAttempt}
 use Rattle.block.specs.declared.block.Block.{Block}
 use Rattle.hash.specs.declared.id.Id.{Id}
-use Rattle.curve.specs.Triple.{Triples}
+use Rattle.signatures.specs.Triple.{Triples}
 use Rattle.std.proofs.lemmas.Result.{err_from_is_err_and}
-use Rattle.chain.specs.Rules.{Rules}
-use Rattle.chain.specs.declared.reply.MarkReply.TheVariants.{Done, NotFound}
-use Rattle.chain.specs.declared.reply.Reply.TheVariants as reply
+use Rattle.model.specs.Rules.{Rules}
+use Rattle.model.specs.declared.reply.MarkReply.TheVariants.{Done, NotFound}
+use Rattle.model.specs.declared.reply.Reply.TheVariants as reply
 use Rattle.activate.specs.inside.Preparation.{CanTry, IsPreparationFor, IsSettledBy, IsTried}
-use Rattle.chain.specs.Regtest.{regtest}
-use Rattle.chain.specs.Settle.{settle}
-use Rattle.chain.specs.Step.{Precious, step}
+use Rattle.model.specs.Regtest.{regtest}
+use Rattle.model.specs.Settle.{settle}
+use Rattle.model.specs.Step.{Precious, step}
 use Rattle.activate.specs.CoreState.{CoreState, Follows}
-use Rattle.chain.specs.laws.Steps.{step_not-found}
+use Rattle.model.specs.laws.Steps.{step_not-found}
 use Rattle.activate.proofs.Plans.{can-follows}
 use Rattle.activate.proofs.PutInPlace.{best-called, can-called, one-try-called, plan-settled, plan-still}
-use Rattle.chain.specs.laws.Findings.{prefer_done, prefer_lower}
+use Rattle.model.specs.laws.Findings.{prefer_done, prefer_lower}
 use Rattle.activate.specs.Wants.{AreWantedToSettle}
 use Rattle.activate.proofs.WantsOfBlocks.{wanted_best, wanted_by}
 use Rattle.activate.proofs.core_state.Core.prepare_precious.Goals as goal

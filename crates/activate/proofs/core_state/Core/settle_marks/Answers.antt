@@ -4,9 +4,9 @@ use Rattle.hash.specs.declared.id.Id.{Id}
 use Rattle.block.specs.declared.block.Block.{Block}
 use Rattle.tree.specs.Branches.{Blocks}
 use Rattle.tree.specs.State.{State}
-use Rattle.chain.specs.Regtest.{regtest}
-use Rattle.chain.specs.Rules.{Rules}
-use Rattle.chain.specs.laws.Tries.{count_without_mark}
+use Rattle.model.specs.Regtest.{regtest}
+use Rattle.model.specs.Rules.{Rules}
+use Rattle.model.specs.laws.Tries.{count_without_mark}
 use Rattle.std.proofs.lemmas.Result.{err_from_is_err_and}
 use Rattle.activate.specs.declared.path.Attempt.{Attempt}
 use Rattle.activate.specs.declared.path.Attempt.TheVariants.{Fails}

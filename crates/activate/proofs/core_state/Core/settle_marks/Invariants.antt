@@ -1,7 +1,7 @@
 use Rattle.activate.specs.inside.Preparation.{TriesLead}
-use Rattle.curve.specs.Known.{Under}
-use Rattle.chain.specs.Regtest.{regtest}
-use Rattle.chain.specs.laws.Tries.{count_without_mark}
+use Rattle.signatures.specs.Known.{Under}
+use Rattle.model.specs.Regtest.{regtest}
+use Rattle.model.specs.laws.Tries.{count_without_mark}
 use Rattle.activate.proofs.core_state.Core.settle_marks.Given as goal
 
 abbrev pub invariant-tries : goal.invariant-tries

@@ -2,7 +2,7 @@ use Rattle.std.specs.Prelude.{IfSome}
 use Rattle.std.proofs.Common.{◌≡◌, ℕ, suc, ◌≤◌, ◌∷◌, true, false, length, refl, sym, subst, ◌∙◌}
 use Rattle.std.proofs.lemmas.Result.{err_from_is_err_and}
 use Rattle.tree.specs.State.{beats, with_block}
-use Rattle.chain.specs.Regtest.{regtest}
+use Rattle.model.specs.Regtest.{regtest}
 use Rattle.activate.specs.CoreState.{CoreState}
 use Rattle.activate.specs.Wants.{AreJoined}
 use Rattle.activate.specs.inside.Paths.{AreWantedOnWay, IsAttempt, IsValid}

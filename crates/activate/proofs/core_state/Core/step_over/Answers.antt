@@ -1,9 +1,9 @@
 use Rattle.std.proofs.Common.{ap, ◌∙◌, sym, subst}
 use Rattle.coins.specs.Changes.{AreChanges, Changes, after_changes}
 use Rattle.coins.specs.laws.Changes.{laid-changes}
-use Rattle.chain.specs.PreparedCommand.{command_of}
-use Rattle.chain.specs.declared.reply.Reply.{Reply}
-use Rattle.chain.specs.Regtest.{regtest}
+use Rattle.model.specs.PreparedCommand.{command_of}
+use Rattle.model.specs.declared.reply.Reply.{Reply}
+use Rattle.model.specs.Regtest.{regtest}
 use Rattle.activate.specs.declared.own_coins.ChangesToLay.{ChangesToLay}
 use Rattle.activate.specs.inside.Preparation.{core_after_commit}
 use Rattle.activate.specs.CoreState.{Follows, KeepsUndo, CoreState, coins_of}

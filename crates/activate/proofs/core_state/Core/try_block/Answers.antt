@@ -1,5 +1,5 @@
 use Rattle.std.proofs.Common.{sym, subst}
-use Rattle.chain.specs.Regtest.{regtest}
+use Rattle.model.specs.Regtest.{regtest}
 use Rattle.activate.specs.CoreState.{CoreState}
 use Rattle.activate.specs.inside.Paths.{IsValid}
 use Rattle.activate.proofs.core_state.Core.try_block.Goals as goal

@@ -1,6 +1,6 @@
 use Rattle.std.proofs.Common.{Bool, cond, length, arith, sym, ap, ◌+◌}
 use Rattle.std.proofs.lemmas.Bool.{eq-eqb, ne_eqb}
-use Rattle.chain.specs.declared.reply.SubmitReply.TheVariants.{Inconclusive, Rejected}
+use Rattle.model.specs.declared.reply.SubmitReply.TheVariants.{Inconclusive, Rejected}
 use Rattle.activate.specs.inside.Preparation.{reply_to_failed_try}
 use Rattle.activate.proofs.core_state.settlement.refused.Goals as goal
 

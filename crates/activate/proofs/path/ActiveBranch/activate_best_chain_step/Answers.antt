@@ -3,8 +3,8 @@ use Rattle.block.specs.declared.block.Block.{Block}
 use Rattle.tree.specs.Branches.{Blocks, branch, on}
 use Rattle.tree.specs.laws.Above.{above}
 use Rattle.activate.specs.declared.path.BranchPath.{BranchPath}
-use Rattle.chain.specs.Regtest.{medians_of, regtest}
-use Rattle.chain.specs.laws.Candidates.{valid_below}
+use Rattle.model.specs.Regtest.{medians_of, regtest}
+use Rattle.model.specs.laws.Candidates.{valid_below}
 use Rattle.activate.specs.CoreState.{branch_blocks, coins_after}
 use Rattle.activate.specs.inside.Paths.{IsPath, IsStop}
 use Rattle.activate.specs.inside.Ascents.{top_of, LeadsUp}

@@ -1,8 +1,8 @@
 use Rattle.std.proofs.Common.{◌≡◌, Result, Ok, IfOk, sym, ap, ◌∙◌, subst}
 use Rattle.coins.specs.Coins.{Coins}
 use Rattle.coins.specs.Changes.{AreChanges, after_changes}
-use Rattle.chain.specs.Regtest.{regtest}
-use Rattle.chain.specs.Valid.{branch_connects}
+use Rattle.model.specs.Regtest.{regtest}
+use Rattle.model.specs.Valid.{branch_connects}
 use Rattle.activate.specs.CoreState.{coins_after}
 use Rattle.activate.specs.inside.Ascents.{top_of, IsTop}
 use Rattle.activate.specs.laws.WalkUp.{top-above}

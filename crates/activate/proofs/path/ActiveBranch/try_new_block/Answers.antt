@@ -10,13 +10,13 @@ use Rattle.connect.specs.Turns.{effect, undo_of}
 use Rattle.connect.specs.laws.Scripts.{fault-found}
 use Rattle.connect.specs.laws.Stops.{none_wanted, wanted_weaker}
 use Rattle.rules.specs.Params.{at}
-use Rattle.curve.specs.Known.{Known}
-use Rattle.curve.specs.Triple.{Triple}
+use Rattle.signatures.specs.Known.{Known}
+use Rattle.signatures.specs.Triple.{Triple}
 use Rattle.rules.specs.declared.params.Params.{Params}
 use Rattle.tree.specs.Branches.{Blocks, Kept, height}
-use Rattle.chain.specs.Regtest.{regtest, setting_on}
-use Rattle.chain.specs.Valid.{branch_connects}
-use Rattle.chain.specs.laws.InHand.{valid_new}
+use Rattle.model.specs.Regtest.{regtest, setting_on}
+use Rattle.model.specs.Valid.{branch_connects}
+use Rattle.model.specs.laws.InHand.{valid_new}
 use Rattle.activate.specs.CoreState.{branch_blocks, coins_after}
 use Rattle.activate.specs.Wants.{AreJoined, AreWantedAt}
 use Rattle.activate.specs.declared.path.Attempt.{Attempt}

@@ -1,9 +1,9 @@
 -- What is copied is the same, so it is a chainstate under the same sets.
 use Rattle.std.proofs.Common.{sym, subst}
-use Rattle.curve.specs.Known.{Under}
+use Rattle.signatures.specs.Known.{Under}
 use Rattle.activate.specs.CoreState.{WithCoins, IsChainstate}
 use Rattle.ffi.specs.Signatures.{valid_in}
-use Rattle.ffi.specs.declared.signatures.Signatures.{Signatures}
+use Rattle.ffi.specs.declared.signature_sources.Signatures.{Signatures}
 use Rattle.ffi.specs.inside.Signatures.{known_in}
 use Rattle.ffi.proofs.session.Session.copy.Goals as goal
 

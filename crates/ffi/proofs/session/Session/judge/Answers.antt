@@ -1,17 +1,17 @@
 use Rattle.std.specs.Prelude.{IfSome}
 use Rattle.std.proofs.Common.{◌≡◌, List, inl, refl, sym, ap, subst, ◌∙◌}
-use Rattle.curve.specs.Known.{Known, Agrees}
-use Rattle.curve.specs.Triple.{Triple}
+use Rattle.signatures.specs.Known.{Known, Agrees}
+use Rattle.signatures.specs.Triple.{Triple}
 use Rattle.queue.specs.Jobs.{told_by}
 use Rattle.activate.specs.CoreState.{CoreState, WithCoins}
 use Rattle.activate.specs.Wants.{AreWantedByStep}
-use Rattle.chain.specs.PreparedCommand.{command_of}
-use Rattle.chain.specs.Commands.{outcome}
-use Rattle.chain.specs.declared.command.Command.{Command}
-use Rattle.chain.specs.declared.reply.Reply.{Reply}
+use Rattle.model.specs.PreparedCommand.{command_of}
+use Rattle.model.specs.Commands.{outcome}
+use Rattle.model.specs.declared.command.Command.{Command}
+use Rattle.model.specs.declared.reply.Reply.{Reply}
 use Rattle.ffi.specs.SessionState.{SessionState, known_of, rules_under, tree_of}
 use Rattle.ffi.specs.Signatures.{valid_in, invalid_in, is_by_need}
-use Rattle.ffi.specs.declared.signatures.Signatures.{Signatures}
+use Rattle.ffi.specs.declared.signature_sources.Signatures.{Signatures}
 use Rattle.ffi.specs.inside.Signatures.{known_in}
 use Rattle.ffi.proofs.Sessions.{known-same}
 use Rattle.ffi.proofs.session.Session.judge.Goals as goal

@@ -1,8 +1,8 @@
 use Rattle.std.proofs.Common.{◌≡◌, None, sym, ap, subst, ◌∙◌}
-use Rattle.curve.specs.Known.{Under, verdict_in}
-use Rattle.curve.specs.Triple.{Triple, triple_of}
+use Rattle.signatures.specs.Known.{Under, verdict_in}
+use Rattle.signatures.specs.Triple.{Triple, triple_of}
 use Rattle.activate.specs.CoreState.{IsChainstate}
-use Rattle.ffi.specs.declared.signatures.Signatures.{Signatures}
+use Rattle.ffi.specs.declared.signature_sources.Signatures.{Signatures}
 use Rattle.ffi.specs.inside.Signatures.{known_in}
 use Rattle.ffi.proofs.Sessions.{grown}
 use Rattle.ffi.proofs.session.Session.learn.Goals as goal

@@ -2,7 +2,7 @@
 use Rattle.std.proofs.Common.{rules, ◌≡◌, None, Some, IfOk, sym, subst}
 use Rattle.std.specs.Result.{result_err}
 use Rattle.block.specs.declared.block.Block.{Block}
-use Rattle.curve.specs.Known.{Agrees}
+use Rattle.signatures.specs.Known.{Agrees}
 use Rattle.coins.specs.Changes.{Changes, after_changes}
 use Rattle.coins.specs.Coins.{Coins}
 use Rattle.connect.specs.BlockContext.{setting}

@@ -1,6 +1,6 @@
 use Rattle.std.proofs.Common.{rules, ◌≡◌, None}
 use mathlib.Core.List.{IsPrefix}
-use Rattle.curve.specs.Known.{verdict_in, with_verdict}
+use Rattle.signatures.specs.Known.{verdict_in, with_verdict}
 use Rattle.node.proofs.Growth.{learnt_more}
 use Rattle.node.proofs.learnt.Learnt.add.Goals as goal
 

@@ -1,7 +1,7 @@
 use Rattle.std.proofs.Common.{◌≡◌, true, false, cond, Some, None, ap, sym, ◌∙◌}
 use Rattle.std.specs.FinSet as set
-use Rattle.curve.specs.Known.{Verdicts, verdict_in}
-use Rattle.curve.specs.Triple.{triple_cmp}
+use Rattle.signatures.specs.Known.{Verdicts, verdict_in}
+use Rattle.signatures.specs.Triple.{triple_cmp}
 use Rattle.node.proofs.learnt.Learnt.new.Goals as goal
 
 pub invariant_of-result : goal.invariant_of-result

@@ -1,5 +1,5 @@
 use Rattle.std.proofs.Common.{List, sym, subst}
-use Rattle.chain.specs.declared.entry.Entry.{Entry}
+use Rattle.model.specs.declared.entry.Entry.{Entry}
 use Rattle.node.specs.Pass.{IsStanding}
 use Rattle.node.proofs.node.NodeOf+ref+dyn+Gate+Sync+J.close.Goals as goal
 

@@ -1,9 +1,9 @@
 use Rattle.std.proofs.Common.{◌≡◌, ◌≤◌, ◌-◌, ℕ, true, List, [], ◌∷◌, length, take, drop, map, Some, refl, ap, sym, ◌∙◌, subst, arith}
 use Rattle.std.proofs.lemmas.Bool.{eq-eqb, eqb-true}
 use Rattle.std.specs.Prelude.{slice_get}
-use Rattle.chain.specs.declared.command.Command.{Command}
-use Rattle.chain.specs.declared.entry.Entry.{Entry}
-use Rattle.chain.specs.History.{own_of}
+use Rattle.model.specs.declared.command.Command.{Command}
+use Rattle.model.specs.declared.entry.Entry.{Entry}
+use Rattle.model.specs.History.{own_of}
 use Rattle.node.specs.Pass.{owed_entry}
 use Rattle.node.specs.inside.LastPlaces.{IsLastPlace}
 use Rattle.node.specs.inside.PublishedState.{PublishedState}

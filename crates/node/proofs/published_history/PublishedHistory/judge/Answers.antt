@@ -1,7 +1,7 @@
 use Rattle.std.proofs.Common.{◌≡◌, List, ap, subst}
-use Rattle.chain.specs.PreparedCommand.{command_of}
-use Rattle.chain.specs.declared.command.Command.{Command}
-use Rattle.chain.specs.declared.entry.Entry.{Entry}
+use Rattle.model.specs.PreparedCommand.{command_of}
+use Rattle.model.specs.declared.command.Command.{Command}
+use Rattle.model.specs.declared.entry.Entry.{Entry}
 use Rattle.view.specs.Origin.{Origin}
 use Rattle.node.specs.inside.Knowledge.{known_of}
 use Rattle.node.specs.inside.PublishedState.{PublishedState, IsCoreReply, IsReplyAfter}

@@ -1,5 +1,5 @@
 use Rattle.std.proofs.Common.{◌≡◌, List, ◌++◌, ◌∷◌, [], true, Some, None, drop, refl, ap, sym, ◌∙◌, subst}
-use Rattle.chain.specs.declared.entry.Entry.{Entry}
+use Rattle.model.specs.declared.entry.Entry.{Entry}
 use Rattle.view.specs.HistoryPrefix.{Beginning}
 use Rattle.view.specs.Origin.{Origin}
 use Rattle.view.specs.ViewState.{IsLegal}

@@ -1,10 +1,10 @@
 use Rattle.std.specs.Option.{option_and_then}
 use Rattle.std.proofs.Common.{◌≡◌, List, Option, ap, subst}
 use Rattle.coins.specs.declared.coin.Coin.{Coin}
-use Rattle.curve.specs.Known.{Under}
+use Rattle.signatures.specs.Known.{Under}
 use Rattle.tree.specs.Branches.{place_of}
 use Rattle.tree.specs.Names.{names}
-use Rattle.chain.specs.declared.entry.Entry.{Entry}
+use Rattle.model.specs.declared.entry.Entry.{Entry}
 use Rattle.activate.specs.Lookups.{spent_at}
 use Rattle.view.specs.Origin.{Origin, known_in}
 use Rattle.view.specs.ViewState.{state_after}

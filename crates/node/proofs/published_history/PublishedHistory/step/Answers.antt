@@ -1,10 +1,10 @@
 use Rattle.std.proofs.Common.{◌≡◌, ℕ, ◌<◌, ◌+◌, ◌++◌, ◌∷◌, [], List, length, set, true, false, Some, None, refl, ap, sym, ◌∙◌, subst, arith}
-use Rattle.curve.specs.Known.{Under}
-use Rattle.chain.specs.declared.command.Command.{Command}
-use Rattle.chain.specs.declared.entry.Entry.{Entry}
-use Rattle.chain.specs.History.{entry_of}
-use Rattle.chain.specs.Learnt.{IsNews}
-use Rattle.chain.specs.PreparedCommand.{command_of}
+use Rattle.signatures.specs.Known.{Under}
+use Rattle.model.specs.declared.command.Command.{Command}
+use Rattle.model.specs.declared.entry.Entry.{Entry}
+use Rattle.model.specs.History.{entry_of}
+use Rattle.model.specs.Learnt.{IsNews}
+use Rattle.model.specs.PreparedCommand.{command_of}
 use Rattle.view.specs.Origin.{Origin, known_in}
 use Rattle.view.specs.ViewState.{IsLegal}
 use Rattle.node.specs.inside.Kept.{IsReplyTo, IsUndecodable, is_step}

@@ -1,8 +1,8 @@
 use Rattle.std.proofs.Common.{rules, ◌≡◌, Some, length, ◌-◌, ap, ◌∙◌}
 use Rattle.std.specs.Prelude.{slice_get}
-use Rattle.chain.specs.declared.command.Command.{Command}
-use Rattle.chain.specs.declared.entry.Entry.{Entry}
-use Rattle.chain.specs.History.{entry_of}
+use Rattle.model.specs.declared.command.Command.{Command}
+use Rattle.model.specs.declared.entry.Entry.{Entry}
+use Rattle.model.specs.History.{entry_of}
 use Rattle.node.specs.inside.PublishedState.{entry_with_reply}
 use Rattle.node.proofs.Publications.{last_found}
 use Rattle.node.proofs.published_history.brought.last_with_reply.Goals as goal

@@ -1,7 +1,7 @@
 use Rattle.std.proofs.Common.{◌≡◌, List, ap, sym, subst}
-use Rattle.curve.specs.Triple.{Triples}
-use Rattle.chain.specs.declared.entry.Entry.{Entry}
-use Rattle.chain.specs.Learnt.{none_found}
+use Rattle.signatures.specs.Triple.{Triples}
+use Rattle.model.specs.declared.entry.Entry.{Entry}
+use Rattle.model.specs.Learnt.{none_found}
 use Rattle.view.specs.Origin.{Origin}
 use Rattle.node.specs.inside.Brought.{IsInfoOfCore}
 use Rattle.node.specs.inside.Knowledge.{IsKnowledge}

@@ -1,5 +1,5 @@
 use Rattle.std.proofs.Common.{◌≡◌, List, length, ap, sym, ◌∙◌}
-use Rattle.chain.specs.declared.entry.Entry.{Entry}
+use Rattle.model.specs.declared.entry.Entry.{Entry}
 use Rattle.view.specs.ViewState.{ViewState}
 use Rattle.node.specs.Pass.{Pass}
 use Rattle.node.specs.Told.{best_in}

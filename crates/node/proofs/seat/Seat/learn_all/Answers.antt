@@ -1,6 +1,6 @@
 use Rattle.std.proofs.Common.{◌≡◌, ◌+◌, List, [], ◌∷◌, ◌++◌, take, subst, sym, refl}
 use Rattle.std.proofs.lemmas.List.{append-nil}
-use Rattle.curve.specs.Triple.{Triple}
+use Rattle.signatures.specs.Triple.{Triple}
 use Rattle.connect.proofs.Steps.{take_item}
 use Rattle.node.specs.Runs.{Learns}
 use Rattle.node.proofs.OwnEntries.{own_begins}

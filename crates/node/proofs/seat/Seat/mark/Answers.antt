@@ -1,4 +1,4 @@
-use Rattle.chain.specs.PreparedCommand.{command_of}
+use Rattle.model.specs.PreparedCommand.{command_of}
 use Rattle.node.proofs.StepAnswers.{mark_news}
 use Rattle.node.proofs.seat.Seat.mark.Goals as goal
 

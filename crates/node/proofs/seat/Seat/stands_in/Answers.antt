@@ -1,6 +1,6 @@
 use Rattle.std.proofs.Common.{◌≡◌, ℕ, drop, map, ap, ◌∙◌, subst}
 use mathlib.Core.List.{IsPrefix}
-use Rattle.chain.specs.History.{own_of}
+use Rattle.model.specs.History.{own_of}
 use Rattle.node.specs.Pass.{Pass, IsStanding, owed_entry}
 use Rattle.node.proofs.OwnEntries.{begins_whole, own_all, within_more}
 use Rattle.node.proofs.seat.Seat.stands_in.Goals as goal

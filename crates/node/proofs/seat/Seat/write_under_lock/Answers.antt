@@ -1,10 +1,10 @@
 use Rattle.std.proofs.Common.{◌≡◌, ℕ, false, List, [], ◌∷◌, ◌++◌, take, map, Some, inr, refl, ap, sym, ◌∙◌, subst, arith, take_all}
 use Rattle.std.proofs.lemmas.List.{append-nil}
 use mathlib.Core.List.{IsPrefix}
-use Rattle.chain.specs.declared.command.Command.{Command}
-use Rattle.chain.specs.declared.entry.Entry.{Entry}
-use Rattle.chain.specs.History.{own_of, entry_of}
-use Rattle.chain.specs.PreparedCommand.{command_of}
+use Rattle.model.specs.declared.command.Command.{Command}
+use Rattle.model.specs.declared.entry.Entry.{Entry}
+use Rattle.model.specs.History.{own_of, entry_of}
+use Rattle.model.specs.PreparedCommand.{command_of}
 use Rattle.node.specs.Pass.{owed_entry}
 use Rattle.node.specs.inside.Kept.{IsReplyTo}
 use Rattle.node.specs.inside.PublishedState.{PublishedState, IsStepAnswer}

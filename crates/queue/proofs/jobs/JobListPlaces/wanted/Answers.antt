@@ -1,7 +1,7 @@
 use Rattle.std.proofs.Common.{◌≡◌, Bool, None, Some, true, length, refl, ap, subst, sym, ◌∙◌, arith}
 use Rattle.std.specs.Prelude.{slice_get}
 use Rattle.std.proofs.lemmas.Option.{get_or_from_slice_get, slice_get_read, slice_get_within}
-use Rattle.curve.specs.Triple.{triple_of}
+use Rattle.signatures.specs.Triple.{triple_of}
 use Rattle.interp.specs.Answer.{Wants}
 use Rattle.interp.specs.Question.{question_of}
 use Rattle.interp.specs.computed.Step.{verdict}

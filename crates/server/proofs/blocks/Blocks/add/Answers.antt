@@ -1,5 +1,5 @@
 use Rattle.std.proofs.Common.{◌≡◌, ◌<◌, ◌+◌, ℕ, List, [], take, length, get_or, sym, subst, arith, rules}
-use Rattle.chain.specs.declared.entry.Entry.{Entry}
+use Rattle.model.specs.declared.entry.Entry.{Entry}
 use Rattle.server.specs.inside.Brought.{AreBrought, seen_by}
 use Rattle.server.proofs.Brought.{brought_push, take_next}
 use Rattle.server.proofs.blocks.Blocks.add.Goals as goal

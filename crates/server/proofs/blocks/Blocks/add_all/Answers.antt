@@ -1,6 +1,6 @@
 use Rattle.std.proofs.Common.{◌≡◌, ◌∙◌, ◌+◌, ℕ, List, length, drop, get_or, ap, sym, arith}
 use Rattle.std.proofs.lemmas.List.{get_or-drop, length-drop}
-use Rattle.chain.specs.declared.entry.Entry.{Entry}
+use Rattle.model.specs.declared.entry.Entry.{Entry}
 use Rattle.server.proofs.blocks.Blocks.add_all.Goals as goal
 
 pub add-requires-clause-within : goal.add-requires-clause-within

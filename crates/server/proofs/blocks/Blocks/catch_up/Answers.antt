@@ -1,5 +1,5 @@
 use Rattle.std.proofs.Common.{◌≡◌, ◌∙◌, List, [], ap, sym, subst}
-use Rattle.chain.specs.declared.entry.Entry.{Entry}
+use Rattle.model.specs.declared.entry.Entry.{Entry}
 use Rattle.node.specs.Pass.{Pass}
 use Rattle.server.specs.inside.Brought.{AreBrought, Index}
 use Rattle.server.proofs.Brought.{begins_all, read_from}

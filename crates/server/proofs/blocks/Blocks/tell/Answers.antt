@@ -1,6 +1,6 @@
 use mathlib.Core.List.{IsPrefix}
 use Rattle.std.proofs.Common.{List, ◌∙◌, refl, sym, ap, subst}
-use Rattle.chain.specs.declared.entry.Entry.{Entry}
+use Rattle.model.specs.declared.entry.Entry.{Entry}
 use Rattle.server.specs.inside.Brought.{Index, seen_by}
 use Rattle.server.proofs.Brought.{begins_longer}
 use Rattle.server.proofs.blocks.Blocks.tell.Goals as goal

@@ -4,7 +4,7 @@ use Rattle.std.specs.List.{All}
 use Rattle.json.specs.Find.{as_str}
 use Rattle.json.specs.Json.{Json}
 use Rattle.json.specs.Value.{value_view}
-use Rattle.curve.specs.Lines.{lines, IsReadable, IsFaultOf}
+use Rattle.signatures.specs.Lines.{lines, IsReadable, IsFaultOf}
 use Rattle.serving.specs.Requests.{param}
 use Rattle.serving.specs.inside.Given.{given}
 use Rattle.serving.proofs.Refusals.{not_all, one_text}

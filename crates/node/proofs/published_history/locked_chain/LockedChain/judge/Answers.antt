@@ -1,7 +1,7 @@
 use Rattle.std.proofs.Common.{◌∙◌, ap, sym, subst}
 use Rattle.std.specs.List.{All}
-use Rattle.curve.specs.Known.{Agrees, all_known}
-use Rattle.curve.specs.Triple.{Triples}
+use Rattle.signatures.specs.Known.{Agrees, all_known}
+use Rattle.signatures.specs.Triple.{Triples}
 use Rattle.queue.specs.Jobs.{IsEarly}
 use Rattle.view.specs.ViewState.{ViewState}
 use Rattle.node.specs.declared.published_history.knowledge.Knowledge.{Knowledge}

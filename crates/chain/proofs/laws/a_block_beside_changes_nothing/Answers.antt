@@ -1,5 +1,0 @@
-use Rattle.chain.specs.laws.Steps.{step-beside}
-use Rattle.chain.proofs.laws.a_block_beside_changes_nothing.Goals as goal
-
-pub returns : goal.returns
-returns g c = λ r s now b p sound is e. step-beside r s sound now b p is e

@@ -1,6 +1,0 @@
-use Rattle.tree.specs.State.{opening}
-use Rattle.chain.specs.laws.Kept.{after_kept}
-use Rattle.chain.proofs.laws.each_kept_block_has_no_fault_by_itself.Goals as goal
-
-pub returns : goal.returns
-returns g c = λ r cs. after_kept r opening cs tt

@@ -1,7 +1,0 @@
-use Rattle.tree.specs.State.{opening}
-use Rattle.chain.specs.Chainstate.{chainstate}
-use Rattle.chain.specs.laws.History.{state_after-append}
-use Rattle.chain.proofs.laws.states_follow.Goals as goal
-
-pub returns : goal.returns
-returns c = λ params triples front rest. state_after-append (chainstate params triples) opening front rest

@@ -1,7 +1,0 @@
-use Rattle.std.proofs.Common.{refl}
-use Rattle.chain.specs.Settle.{active}
-use Rattle.chain.specs.laws.Steps.{step_precious-active}
-use Rattle.chain.proofs.laws.the_active_block_may_be_called_precious.Goals as goal
-
-pub returns : goal.returns
-returns g c = λ r s i sound e. step_precious-active r s i (active r s) e sound refl

@@ -1,5 +1,0 @@
-use Rattle.curve.specs.laws.Growth.{found-agrees}
-use Rattle.curve.proofs.laws.a_set_that_agrees_has_each_yes_and_no_no.Goals as goal
-
-pub returns : goal.returns
-returns c = found-agrees

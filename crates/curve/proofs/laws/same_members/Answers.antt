@@ -1,5 +1,0 @@
-use Rattle.curve.specs.laws.Members.{same-members}
-use Rattle.curve.proofs.laws.same_members.Goals as goal
-
-pub returns : goal.returns
-returns c = λ a b same. same-members a b same

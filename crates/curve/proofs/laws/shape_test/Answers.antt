@@ -1,5 +1,0 @@
-use Rattle.curve.specs.laws.Shape.{strict-sound, strict-again}
-use Rattle.curve.proofs.laws.shape_test.Goals as goal
-
-pub returns : goal.returns
-returns c = λ bytes. (strict-sound bytes, strict-again bytes)
