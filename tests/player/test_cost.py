@@ -118,10 +118,12 @@ def busy(door: str, text: str) -> float:
 
 
 def busy_once(door: str, text: str) -> float:
+    """All threads on one processor: two on halves of one core take longer each, so more threads would seem to do more work."""
+    on_one = ["taskset", "--cpu-list", str(min(os.sched_getaffinity(0)))]
     with tempfile.TemporaryFile("w+") as listed, tempfile.TemporaryFile("w+") as told:
         listed.write(text)
         listed.seek(0)
-        child = subprocess.Popen([playing_lists.PLAYER, door, "-"], stdin=listed, stdout=told)
+        child = subprocess.Popen([*on_one, playing_lists.PLAYER, door, "-"], stdin=listed, stdout=told)
         _, status, usage = os.wait4(child.pid, 0)
         child.returncode = status
         told.seek(0)

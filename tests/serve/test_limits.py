@@ -188,10 +188,10 @@ class HistoryMemory(ProgramTest):
         headers = (begins + nonce.to_bytes(4, "little") for nonce in range(100))
         return next(it for it in headers if double_sha(it)[31] < 0x7f) + b"\1" + coinbase
 
-    def refused_block(self) -> bytes:
+    def refused_block(self, version: int = 0) -> bytes:
         """A block that is refused for its header alone, of many bytes behind it."""
         # Regtest's target begins with a bit that isn't set.
-        headers = (bytes(76) + nonce.to_bytes(4, "little") for nonce in range(100))
+        headers = (version.to_bytes(4, "little") + bytes(72) + nonce.to_bytes(4, "little") for nonce in range(100))
         return next(it for it in headers if double_sha(it)[31] >= 0x80) + b"\1" + self.large_coinbase()
 
     def test_submissions_that_are_not_kept(self) -> None:
@@ -261,6 +261,18 @@ class HistoryMemory(ProgramTest):
         for step in range(3, 103):
             self.assertEqual(self.submit(served, block)["result"], {"at": step, "answer": "duplicate"})
         # So many bytes would be 40 MB.
+        self.assertLess(resident(served.process.pid), before + 8_192)
+        self.assertEqual(served.end(), (0, ""))
+
+    def test_memory_of_two_that_are_refused_again(self) -> None:
+        """Nor does a block that was refused before, whatever came between."""
+        served = self.served()
+        blocks = [self.refused_block(version) for version in (0, 1)]
+        for block in blocks:
+            self.submit(served, block)
+        before = resident(served.process.pid)
+        for step in range(3, 103):
+            self.assertEqual(self.submit(served, blocks[step % 2])["result"]["at"], step)
         self.assertLess(resident(served.process.pid), before + 8_192)
         self.assertEqual(served.end(), (0, ""))
 

@@ -28,6 +28,7 @@ mod locked_chain;
 mod new_history;
 mod owed_step;
 mod refusal;
+mod refused_blocks;
 mod writer_home;
 
 use crate::entries::own_are;
@@ -41,6 +42,7 @@ use crate::published_history::locked_chain::LockedChain;
 pub(crate) use crate::published_history::new_history::{Opened, open_history};
 use crate::published_history::owed_step::Pending;
 pub(crate) use crate::published_history::refusal::Refusal;
+use crate::published_history::refused_blocks::RefusedBlocks;
 use crate::published_history::writer_home::WriterHome;
 use hash::Id;
 use model::{Command, Entry, PreparedCommand, Reply};
@@ -64,6 +66,7 @@ pub(crate) struct PublishedHistory<J: Naming> {
     /// The whole history: a step that is owed is its last entry, without its reply.
     journal: Vec<Entry>,
     last: LastPlaces,
+    refused: RefusedBlocks,
     pending: Pending,
     /// None once what is published has no note: nothing more is published then.
     home: Option<WriterHome<J>>,
@@ -138,6 +141,7 @@ impl<J: Naming> PublishedHistory<J> {
             hub,
             journal: Vec::new(alloc),
             last,
+            refused: RefusedBlocks::new(alloc),
             pending: Pending::None,
             home: Some(home),
             of: PhantomData,
@@ -300,12 +304,22 @@ impl<J: Naming> PublishedHistory<J> {
         if reserve_one(&mut self.journal).is_err() {
             return Err(Refusal::Memory);
         }
-        let Ok(entered) = shared_command(&self.chain.core, command, asked) else {
+        if self.refused.reserve(command).is_err() {
+            return Err(Refusal::Memory);
+        }
+        let Ok(entered) = shared_command(
+            &self.chain.core,
+            &self.journal,
+            &self.refused,
+            command,
+            asked,
+        ) else {
             return Err(Refusal::Memory);
         };
         let (reply, changes) = self.chain.step(self.alloc, command, crews, gate)?;
-        let seat = token.number();
-        self.last.set(seat, self.journal.len() + 1);
+        let (seat, place) = (token.number(), self.journal.len());
+        self.refused.note(&self.chain.core, command, place);
+        self.last.set(seat, place + 1);
         self.journal.push_reserved(Entry {
             seat,
             command: entered,

@@ -2,13 +2,17 @@
 
 ghost use Rattle.std.specs.Prelude.{◌≡◌, IfOk};
 
+use crate::published_history::refused_blocks::RefusedBlocks;
 use activate::Core;
-use model::{Command, PreparedCommand};
+use model::{Command, Entry, PreparedCommand};
 use wire::Memory;
 
-/// An equal command. It shares the bytes of a block that is kept already, so that one that is submitted again takes none.
+/// An equal command. It shares the bytes of a block that is kept, or that was refused before, so that one that is submitted
+/// again takes none.
 pub(crate) fn shared_command(
     core: &Core,
+    journal: &[Entry],
+    refused: &RefusedBlocks,
     command: &PreparedCommand,
     asked: &Command,
 ) -> Result<Command, Memory>
@@ -17,9 +21,14 @@ pub(crate) fn shared_command(
     if let (PreparedCommand::Submit(submission, _), Command::Submit(bytes, now)) = (
         command, asked,
     ) {
-        if let Some(kept) = submission.block().and_then(|block| core.block(&block.id)) {
-            if kept.as_slice() == bytes.as_slice() {
-                return Ok(Command::Submit(kept.copy()?, *now));
+        if let Some(block) = submission.block() {
+            let found = core
+                .block(&block.id)
+                .or_else(|| refused.find(journal, &block.id));
+            if let Some(known) = found {
+                if known.as_slice() == bytes.as_slice() {
+                    return Ok(Command::Submit(known.copy()?, *now));
+                }
             }
         }
     }

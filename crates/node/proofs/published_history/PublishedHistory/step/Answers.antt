@@ -52,7 +52,7 @@ invariant_of-self-2 g c =
     let log : s.journal.items ≡ s.chain.note.entries = rw owed at i.2 in
     let core = owed_core o s.chain.core new.core s.journal.items n k r c.in_ok-reply.changes i.0 did step news seat in
     let changes = owed_changes o s.chain.core new.core s.journal.items n k r c.in_ok-reply.changes i.0 did step news seat in
-    let count : c.len.result ≡ length s.journal.items = omega (arith, c.len.ensures, c.reserve_one.new.list.ok, ap (λ (l : List Entry). length l) c.reserve_one.ensures.items) in
+    let count : c.len-place.result ≡ length s.journal.items = omega (arith, c.len-place.ensures, c.reserve_one.new.list.ok, ap (λ (l : List Entry). length l) c.reserve_one.ensures.items) in
     let place : c.set.new.self ≡ set s.last n (length s.journal.items + 1) = c.set.ensures ∙ (λ j. set s.last (c.number-seat.ensures.is j) (count j + 1)) in
     let places : AreLastPlaces o.seats c.set.new.self (s.journal.items ++ e ∷ []) =
     subst (λ (l : List ℕ). AreLastPlaces o.seats l (s.journal.items ++ e ∷ [])) (sym place) (lasts_push o.seats n s.last s.journal.items e i.7 refl) in
