@@ -19,18 +19,18 @@ use workloads::inputs::lists::put_made;
 /// When blocks are submitted, in seconds since 1970: after the times of all of them.
 pub const NOW: u64 = 0xffff_ffff;
 
-/// So many blocks are timed where it is asked what one costs on a chain of some height.
+/// How many blocks are timed where it is asked what one costs on a chain of some height.
 const TIMED: usize = 100;
 
-/// So many blocks on genesis stand beside the two branches of a reorganisation.
+/// How many blocks on genesis stand beside the two branches of a reorganisation.
 const BESIDE: usize = 10_000;
 
 /// What is submitted to a chainstate.
 #[derive(Clone, Copy)]
 pub enum Growth {
-    /// So many blocks of this branch, and as many as the last number says above them, which are timed.
+    /// A number of blocks of this branch, and then a number of blocks above them, which are timed.
     Above(Branch, usize, usize),
-    /// So many blocks on genesis, of which the first stays the active one and the others stand beside it.
+    /// A number of blocks on genesis, of which the first stays the active one and the others stand beside it.
     Beside(usize),
     /// The block by which another branch becomes active, where so many blocks are disconnected and one more is connected.
     /// Ten thousand blocks stand beside the two branches.

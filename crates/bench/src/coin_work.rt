@@ -10,7 +10,7 @@ use txn::OutPoint;
 use workloads::inputs::hoard::{Hoard, fill, hoarded, put_coin, put_next, put_spread};
 use workloads::inputs::start::Start;
 
-/// So many coins into a map.
+/// Coins are put into a map.
 pub fn inserted<R: AllocGlobal + Clock>(rt: &R, size: usize) -> Result<Outcome, Fault> {
     let coins = hoarded(rt.alloc(), size)?;
     let mut map = CoinMap::new(rt.alloc());
@@ -47,7 +47,7 @@ pub fn looked_up<R: AllocGlobal + Clock>(rt: &R, size: usize) -> Result<Outcome,
     looks(rt, &Cache::over(rt.alloc(), &map), places.as_slice())
 }
 
-/// So many coins looked up in a map by themselves, at the places that the readers of a node have.
+/// Coins are looked up in a map by itself, at the places that the readers of a node have.
 pub fn read_from_a_map<R: AllocGlobal + Clock>(rt: &R, size: usize) -> Result<Outcome, Fault> {
     let Start { spread, .. } = Start::shuffled(rt.alloc(), 0, size)?;
     read_spread(rt, spread.as_slice())
@@ -89,7 +89,7 @@ fn taken<B: Base>(layer: &mut Cache<'_, B>, places: &[OutPoint]) -> Result<Check
     Ok(Check::Count(sum))
 }
 
-/// So many coins put into a map, and nothing beside it.
+/// Coins are put into a map, and nothing else is kept.
 pub fn held<R: AllocGlobal + Clock>(rt: &R, size: usize) -> Result<Outcome, Fault> {
     let mut map = CoinMap::new(rt.alloc());
     let timer = Timer::start(rt);

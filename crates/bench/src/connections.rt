@@ -29,7 +29,7 @@ use workloads::inputs::spends::{Spends, to_keys};
 /// The height of the blocks.
 pub const HEIGHT: u32 = 101;
 
-/// So many payments stand in a block.
+/// The payments of a block.
 const PAYMENTS: usize = 2000;
 
 /// A block of 2,000 payments connected to so many coins and those that it spends, its scripts run by so many

@@ -8,19 +8,19 @@ use workloads::inputs::branch::Branch;
 use workloads::inputs::scripts::long_script_alone;
 use workloads::inputs::start::{Start, branches as branches_of, paying};
 
-/// So many payments stand in a block beside which is read, and in each of branches that are submitted at once.
+/// The payments of a block beside which is read, and in each of branches that are submitted at once.
 const PAYMENTS: usize = 1000;
 
-/// So many payments are submitted while the slowest read is looked for.
+/// The payments that are submitted while the slowest read is looked for.
 const SLOWEST: usize = 120_000;
 
 /// The most blocks of them.
 const MANY: usize = 240;
 
-/// So many steps are timed where it is asked what one costs.
+/// How many steps are timed where it is asked what one costs.
 const STEPS: usize = 10;
 
-/// So many branches are submitted at once.
+/// How many branches are submitted at once.
 const BRANCHES: u32 = 4;
 
 /// The most coins that are read where the slowest read is looked for, a hundred times each.
@@ -51,7 +51,7 @@ pub struct Plan {
     pub work: Work,
 }
 
-/// So many coins read by each of so many seats.
+/// Each seat reads this many coins.
 pub fn reads(alloc: Global, coins: usize, seats: usize, look: Look) -> Result<Plan, Fault> {
     let start = Start::shuffled(alloc, 0, coins)?;
     Ok(Plan {
@@ -95,7 +95,7 @@ fn beside(
     })
 }
 
-/// So many blocks that pay a chain's coins, where it was made, by so many seats in turn.
+/// Blocks that pay a chain's coins, where it was made, submitted by seats in turn.
 fn in_turn(
     alloc: Global,
     start: Result<Start, Fault>,
@@ -113,7 +113,7 @@ fn in_turn(
     })
 }
 
-/// So many blocks of 1,000 payments on one branch.
+/// This many blocks of 1,000 payments on one branch.
 pub fn turns(alloc: Global, count: usize, seats: usize) -> Result<Plan, Fault> {
     in_turn(alloc, Start::shuffled(alloc, PAYMENTS, 0), count, seats, 1)
 }
@@ -154,7 +154,7 @@ pub fn branches(alloc: Global, count: usize, seats: usize) -> Result<Plan, Fault
     })
 }
 
-/// So many blocks without payments, each submitted as it is made.
+/// This many blocks without payments, each submitted as it is made.
 pub fn kept(alloc: Global, branch: Branch, count: usize) -> Plan {
     Plan {
         seats: 1,

@@ -14,7 +14,7 @@ use workloads::inputs::lists::put;
 use workloads::inputs::signed_transaction::{Signed, of_inputs};
 use workloads::inputs::spends::ALL;
 
-/// So many digests of a transaction of 1,000 inputs, each of which has a push that ends as a signature of type ALL does.
+/// This many digests of a transaction of 1,000 inputs, each of which has a push that ends as a signature of type ALL does.
 pub fn digests<R: AllocGlobal + Clock>(rt: &R, size: usize) -> Result<Outcome, Fault> {
     let tx = of_inputs(rt.alloc(), 1000, &[1, ALL])?;
     let timer = Timer::start(rt);

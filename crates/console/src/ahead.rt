@@ -7,13 +7,13 @@ use std::alloc::Global;
 use std::thread::{Threads, for_each_mut};
 use wire::Memory;
 
-/// So many bytes of blocks are read ahead, or one block.
+/// How many bytes of blocks are read ahead, unless one block has more.
 const READ_AHEAD: usize = 4_000_000;
 
-/// So many blocks are read ahead at most.
+/// The most blocks that are read ahead.
 const MOST_BLOCKS: usize = 64;
 
-/// A thread is started for so many bytes at least: decoding and hashing them takes some twenty times as long as starting it.
+/// A thread is started for at least this many bytes, so that its start is a small part of its time.
 const FOR_EACH_WORKER: usize = 100_000;
 
 /// A block's bytes, with what was made of them, if there was time and memory.

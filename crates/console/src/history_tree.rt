@@ -12,7 +12,7 @@ use signatures::Table;
 use std::alloc::{AllocError, Global};
 use std::collections::BTreeMap;
 
-/// So many digits stand for a block without a name.
+/// How many digits of its id stand for a block without a name.
 const DIGITS: usize = 8;
 
 /// A block that was submitted, and its parent.

@@ -20,9 +20,9 @@ pub struct Progress<'c, 'e, C, E> {
 /// What was done so far.
 #[derive(Clone, Copy)]
 enum Work {
-    /// So many commands were answered, so many of them submissions.
+    /// How many commands were answered, and how many of them were submissions.
     Run { commands: u64, blocks: u64 },
-    /// So many lines were replayed. The journal has so many blocks.
+    /// How many lines were replayed, and how many blocks the journal has.
     Audit { lines: u64, blocks: u64 },
 }
 

@@ -205,7 +205,7 @@ pub fn read_heights_line(line: &[u8]) -> Option<Params> {
     read_heights(word.strip_suffix('\n').unwrap_or(word))
 }
 
-/// So many lines of a text, or all where it has fewer.
+/// The first lines of a text, or all if it has fewer.
 fn first_lines(text: &[u8], count: usize) -> &[u8] {
     let mut left = count;
     for (place, byte) in text.iter().enumerate() {
@@ -219,7 +219,7 @@ fn first_lines(text: &[u8], count: usize) -> &[u8] {
     text
 }
 
-/// So many records of a blk file, or all where it has fewer.
+/// The first records of a blk file, or all if it has fewer.
 fn first_records(alloc: Global, blk: &[u8], count: usize) -> Result<Vec<Vec<u8>>, Fault<'static>> {
     let mut records = Records::new(alloc, SliceSource::new(blk));
     let mut first = Vec::new(alloc);

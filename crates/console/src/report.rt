@@ -25,7 +25,7 @@ impl<'t> Clients<'t> {
         }
     }
 
-    /// So many entries are a client's that stand at this place of the history, from 0, before those that had it.
+    /// This many entries are a client's. They stand at this place of the history, from 0, before those that had it.
     pub fn put_in(&mut self, place: u64, count: u64, name: &'t str) -> Result<(), AllocError> {
         for _ in 0..count {
             let at = self.earlier.len().min(place as usize);

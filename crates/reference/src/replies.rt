@@ -17,7 +17,7 @@ use wire::Memory;
 
 /// Who hears how far a replay is.
 pub trait Watch {
-    /// So many commands are answered.
+    /// This many commands are answered.
     fn done(&mut self, commands: usize);
 }
 
