@@ -69,7 +69,7 @@ class Installed(ProgramTest):
     def test_what_install_puts(self) -> None:
         with tempfile.TemporaryDirectory() as room:
             copy = os.path.join(room, "copy")
-            for name in ("install", "docs/regchain.1", *("completion/" + it for it in os.listdir(os.path.join(ROOT, "completion")))):
+            for name in ("install", "tools/regchain.sh", "docs/regchain.1", *("completion/" + it for it in os.listdir(os.path.join(ROOT, "completion")))):
                 os.makedirs(os.path.dirname(os.path.join(copy, name)), exist_ok=True)
                 shutil.copy(os.path.join(ROOT, name), os.path.join(copy, name))
             told = subprocess.run([os.path.join(copy, "install"), os.path.join(room, "to")], capture_output=True, text=True)
@@ -83,6 +83,7 @@ class Installed(ProgramTest):
                 put,
                 [
                     "bin/regchain",
+                    "lib/wakotehu/regchain",
                     "share/bash-completion/completions/regchain",
                     "share/fish/vendor_completions.d/regchain.fish",
                     "share/man/man1/regchain.1",

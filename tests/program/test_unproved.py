@@ -58,7 +58,7 @@ class Unproved(unittest.TestCase):
         with tempfile.TemporaryDirectory() as room:
             shutil.copy(f"{ROOT}/install", room)
             os.makedirs(f"{room}/out/unproved/lib")
-            for name in ("docs", "completion"):
+            for name in ("docs", "completion", "tools"):
                 os.symlink(f"{ROOT}/{name}", f"{room}/{name}")
             with open(f"{room}/out/unproved/regchain", "w", encoding="utf-8") as file:
                 file.write("#!/bin/sh\n")

@@ -92,7 +92,7 @@ class ProcessorTest(unittest.TestCase):
             text = file.read()
         [wanted] = [line for line in text.splitlines() if line.startswith("for flag in ")]
         self.assertEqual(set(wanted[len("for flag in "):].partition(";")[0].split()), processor.V3)
-        said = '#!/bin/sh\necho {} "$@"\nexit 7\n'
+        said = '#!/bin/sh\necho {} "$@" $GLIBC_TUNABLES\nexit 7\n'
         home = os.path.join(self.room, "lib", "wakotehu")
         self.put("regchain", said.format("default"), home)
         self.put("regchain", said.format("v3"), os.path.join(home, processor.FOLDER))
@@ -102,8 +102,21 @@ class ProcessorTest(unittest.TestCase):
             if not os.path.islink(link):
                 os.symlink(script, link)
             for called in (script, link):
-                done = subprocess.run([called, "run", "a b"], capture_output=True, text=True)
-                self.assertEqual((done.returncode, done.stdout, done.stderr), (7, f"{one} run a b\n", ""))
+                for more, pages in (({}, processor.LARGE_PAGES), ({"GLIBC_TUNABLES": "own"}, "own")):
+                    names = {name: it for name, it in os.environ.items() if name != "GLIBC_TUNABLES"}
+                    done = subprocess.run([called, "run", "a b"], capture_output=True, text=True, env={**names, **more})
+                    self.assertEqual((done.returncode, done.stdout, done.stderr), (7, f"{one} run a b {pages}\n", ""))
+        # Where there is the default alone, that is run.
+        os.remove(os.path.join(home, processor.FOLDER, "regchain"))
+        script = self.put("regchain", text.replace("/proc/cpuinfo", self.cpuinfo(NEW)), os.path.join(self.room, "bin"))
+        self.assertTrue(subprocess.run([script], capture_output=True, text=True).stdout.startswith("default"))
+
+    def test_large_pages(self):
+        """The program of a node gets the setting, unless the environment has one."""
+        with mock.patch.dict(os.environ, {"GLIBC_TUNABLES": "own"}):
+            self.assertEqual(processor.environment()["GLIBC_TUNABLES"], "own")
+            del os.environ["GLIBC_TUNABLES"]
+            self.assertEqual(processor.environment(), {**os.environ, "GLIBC_TUNABLES": processor.LARGE_PAGES})
 
 
 class InstallTest(unittest.TestCase):
@@ -133,12 +146,12 @@ class InstallTest(unittest.TestCase):
         return {name for name in names if not name.startswith(("share", "include", "lib/pkgconfig"))}
 
     def test_both_and_the_default_again(self):
-        plain = {"bin/regchain", "lib/libwakotehu.a", "lib/libwakotehu.so", "lib/libwakotehu.so.0"}
+        plain = {"bin/regchain", "lib/wakotehu/regchain", "lib/libwakotehu.a", "lib/libwakotehu.so", "lib/libwakotehu.so.0"}
         self.assertEqual(self.installed(), plain)
         v3 = processor.FOLDER
         self.put(f"crates/regchain/out/{v3}/regchain", "echo v3")
         self.put(f"ffi/out/{v3}/libwakotehu.so.0", "v3")
-        both = {f"lib/{v3}/libwakotehu.so.0", "lib/wakotehu/regchain", f"lib/wakotehu/{v3}/regchain"}
+        both = {f"lib/{v3}/libwakotehu.so.0", f"lib/wakotehu/{v3}/regchain"}
         self.assertEqual(self.installed(), plain | both)
         told = subprocess.run([f"{self.to}/bin/regchain"], capture_output=True, text=True, check=True).stdout
         self.assertEqual(told, "v3\n" if processor.has_v3() else "default\n")

@@ -15,6 +15,7 @@ from typing import Any, Callable, Dict, List, Optional, Sequence
 from weakref import WeakSet
 
 from . import errors
+from .processor import environment
 from .served import KEPT, MOST, UNDER_WAY, Call, died, outcome, read_answer, request
 
 #: No wait is longer: then a waiter looks again whether somebody reads.
@@ -89,7 +90,7 @@ class Pipe:
         pipe = subprocess.PIPE
         try:
             self.process: "subprocess.Popen[bytes]" = subprocess.Popen(
-                words, stdin=pipe, stdout=pipe, stderr=self._stderr, bufsize=0, start_new_session=True
+                words, stdin=pipe, stdout=pipe, stderr=self._stderr, bufsize=0, start_new_session=True, env=environment()
             )
         except BaseException:
             self._stderr.close()

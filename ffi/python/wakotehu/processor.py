@@ -1,4 +1,5 @@
-"""Which build of a file this machine's processor takes: beside the default one there may be one for x86-64-v3.
+"""Which build of a file this machine's processor takes: beside the default one there may be one for x86-64-v3. And with
+which pages a program gets its memory.
 
 glibc looks for libraries in the same folder below each of its own (`man ld.so`, glibc-hwcaps), but not where a whole path
 is given, as this package gives it.
@@ -6,12 +7,21 @@ is given, as this package gives it.
 
 import os
 from functools import lru_cache
+from typing import Dict
 
 #: What /proc/cpuinfo calls the instructions that x86-64-v3 asks for, with those of v2.
 V3 = frozenset(
     "pni ssse3 sse4_1 sse4_2 popcnt cx16 lahf_lm avx avx2 bmi1 bmi2 f16c fma abm movbe xsave".split()
 )
 FOLDER = os.path.join("glibc-hwcaps", "x86-64-v3")
+
+#: Has malloc ask for pages of 2 MB (glibc's manual, "Memory Allocation Tunables"): coins lie all over the memory.
+LARGE_PAGES = "glibc.malloc.hugetlb=1"
+
+
+def environment() -> Dict[str, str]:
+    """The environment for a program: this process's, with large pages unless it says something of glibc's settings itself."""
+    return {"GLIBC_TUNABLES": LARGE_PAGES, **os.environ}
 
 
 @lru_cache(maxsize=None)
