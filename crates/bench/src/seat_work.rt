@@ -89,14 +89,28 @@ pub fn at_once<J: Naming, R>(
 where
     R: AllocGlobal + Clock + Threads + Wait + Sync,
 {
-    let threads = seats.len().max(1);
     let sum = AtomicU64::new(0);
-    let act = |place: usize, seat: &mut Seat<'_, J>| {
-        add_part(&sum, part_of(rt, node, work, place, threads, seat));
-    };
     let timer = Timer::start(rt);
-    thread::for_each_mut(rt, seats, threads, &act);
+    do_parts(rt, node, work, seats, &sum);
     timer.stop(rt, Ok(Check::Count(sum.load(SeqCst))))
+}
+
+/// Each seat does its part on a thread of its own, and adds what comes of it.
+fn do_parts<J: Naming, R>(
+    rt: &R,
+    node: &Node<'_, J>,
+    work: &Work,
+    seats: &mut [Seat<'_, J>],
+    sum: &AtomicU64,
+)
+where
+    R: AllocGlobal + Threads + Wait + Sync,
+{
+    let threads = seats.len().max(1);
+    let act = |place: usize, seat: &mut Seat<'_, J>| {
+        add_part(sum, part_of(rt, node, work, place, threads, seat));
+    };
+    thread::for_each_mut(rt, seats, threads, &act);
 }
 
 /// Adds what came of a seat's part, where it came to an end.
