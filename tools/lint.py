@@ -28,7 +28,7 @@ CHECKERS = ["mypy", "pyflakes3", "shellcheck"]
 # Where scripts look for modules behind their own folder.
 TESTS = ("program", "player", "serve", "durable", "vectors", "refusals", "soak", "core", "replicas")
 PATHS = ["tools", *(f"tests/{it}" for it in TESTS), "ffi/python"]
-OTHERS = {"tests/replicas": ["ffi/python/tests"]}
+OTHERS = {"bench": ["ffi/python/tests"], "tests/replicas": ["ffi/python/tests"], "tests/program": ["bench"]}
 
 
 def scripts(program: bytes, *folders: str) -> Iterator[str]:
@@ -52,7 +52,8 @@ def ran(words: List[str], paths: str = "") -> Tuple[int, List[str]]:
 
 
 def groups_of(names: List[str]) -> List[Dict[str, List[str]]]:
-    """Scripts by their folders (of a package, by the one that it is in), those together whose modules have different names."""
+    """Scripts by their folders (of a package, by the one that it is in), those together whose modules have different names, and
+    that look for others in the same places."""
     folders: Dict[str, List[str]] = {}
     for name in names:
         folder = os.path.dirname(name)
@@ -62,7 +63,7 @@ def groups_of(names: List[str]) -> List[Dict[str, List[str]]]:
     modules = {folder: {it[len(folder):].split("/")[1] for it in own if it.endswith(".py")} for folder, own in folders.items()}
     groups: List[Dict[str, List[str]]] = []
     for folder, own in folders.items():
-        fits = [group for group in groups if not any(modules[folder] & modules[it] for it in group)]
+        fits = [group for group in groups if not any(modules[folder] & modules[it] or OTHERS.get(folder) != OTHERS.get(it) for it in group)]
         if not fits:
             groups.append({})
         (fits or groups[-1:])[0][folder] = own
@@ -83,6 +84,8 @@ def typed(names: List[str]) -> List[str]:
         status, told = ran(words, ":".join(dict.fromkeys(paths)))
         if status > 1:
             return [f"mypy has stopped: {line}" for line in told]
+        if any("Skipping most remaining errors" in line for line in told):
+            return [f"mypy leaves errors out behind this: {line}" for line in told if line.endswith("[import]")]
         return [links[path] + line[len(path):] for line in told for path in [line.split(":")[0]] if path in links]
 
     groups = groups_of(names)

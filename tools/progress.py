@@ -121,6 +121,7 @@ def build(jobs: int) -> int:
                 progress.end()
                 print(f"{end_of_log()}\n{name} isn't proved; out/build.log has all that was printed", file=sys.stderr)
                 return 1
+            subprocess.run([f"{ROOT}/tests/changed", "--built", name], check=True)
     progress.end()
     return 0
 

@@ -1,23 +1,27 @@
 #!/usr/bin/env python3
-"""Measures the functions in crates/: parameters beside self, clauses, the width of clauses, lines of a body.
+"""Measures the functions in crates/: parameters beside self, clauses, the width of clauses, lines of a body; and in how many
+crates a type's name stands for one of their own.
 
     tools/style.py          fails where a function is above a limit, and tools/style.txt doesn't say so of it; or where it
                             says more than there is, so that the list only shrinks
     tools/style.py --write  takes from the list what got better. It adds nothing
 
-A line of the list has the measure, the file below crates/, the function (`#2` is the second of its name) and its number.
+A line of the list has the measure, the file below crates/, the function (`#2` is the second of its name) and its number. For a
+type's name the file is `*`.
 """
 import argparse
 import os
+import re
 import sys
-from typing import Dict, Tuple
+from typing import Dict, Set, Tuple
 
 sys.dont_write_bytecode = True
 from sources import repository
 from sources.rattle import Function, functions
 
 LIST = f"{repository.ROOT}/tools/style.txt"
-LIMITS = {"parameters": 6, "clauses": 8, "width": 100, "lines": 40}
+LIMITS = {"parameters": 6, "clauses": 8, "width": 100, "lines": 40, "types": 1}
+TYPE = re.compile(r"^(?:pub(?:\([a-z]+\))? )?(?:struct|enum|trait|type) (\w+)", re.MULTILINE)
 
 # A measure, a file, a function.
 Key = Tuple[str, str, str]
@@ -38,11 +42,14 @@ def measured(text: str, it: Function) -> "Dict[str, int]":
 
 
 def above() -> "Dict[Key, int]":
-    """Each function above a limit, with its number."""
+    """Each function and type above a limit, with its number."""
     found: Dict[Key, int] = {}
+    types: Dict[str, Set[str]] = {}
     for crate in sorted(os.listdir(f"{repository.ROOT}/crates")):
         for source in repository.sources(crate):
             text = repository.read(f"crates/{crate}/{source}")
+            for name in TYPE.findall(text):
+                types.setdefault(name, set()).add(crate)
             seen: Dict[str, int] = {}
             for it in functions(text):
                 seen[it.name] = seen.get(it.name, 0) + 1
@@ -50,6 +57,7 @@ def above() -> "Dict[Key, int]":
                 for measure, number in measured(text, it).items():
                     if number > LIMITS[measure]:
                         found[measure, f"{crate}/{source}", name] = number
+    found.update({("types", "*", name): len(crates) for name, crates in types.items() if len(crates) > LIMITS["types"]})
     return found
 
 

@@ -11,7 +11,7 @@ use Rattle.tree.specs.Nodes.{CanKeep}
 use Rattle.tree.specs.Sound.{IsBest}
 use Rattle.tree.specs.State.{beats, has_no_mark}
 use Rattle.tree.specs.laws.AddedBlock.{place-bound}
-use Rattle.activate.specs.declared.path.Attempt.{Attempt}
+use Rattle.activate.specs.declared.path.TryOutcome.{TryOutcome}
 use Rattle.activate.specs.declared.plan.Prepared.{Prepared}
 use Rattle.activate.specs.declared.plan.Settled.{Settled}
 use Rattle.activate.specs.declared.plan.Edit.TheVariants.{Keep}
@@ -31,7 +31,7 @@ use Rattle.model.specs.Submission.{Outcome, answer_added, submit_says}
 use Rattle.model.specs.laws.SettledState.{settle-blocks}
 use Rattle.model.specs.laws.Steps.{faultless-alone, faultless-parent, step-added, step-beside}
 use Rattle.activate.specs.CoreState.{CoreState, Follows, coins_of}
-use Rattle.activate.specs.inside.Paths.{IsAttempt}
+use Rattle.activate.specs.inside.Paths.{IsTryOutcome}
 use Rattle.activate.specs.inside.Preparation.{CanTry, IsPreparationFor, IsSettledBy, IsTried, Settles, core_with_block, edited}
 use Rattle.activate.proofs.Plans.{can-follows}
 use Rattle.activate.proofs.PutInPlace.{best-added, can-added, coins-added, one-try-added, plan-settled, says-added, settles-beside}
@@ -86,7 +86,7 @@ module _ (triples : Triples) (a : CoreState) (follows : Follows a triples) (now 
       best-added r a follows.sound b p can alone_new below_new is.unknown is.parent follows.active_is (subst (λ (q : ℕ). has_no_mark a.state q ≡ true) same from.2) better
 
   -- and its one try settles the state
-  pub tried_new : beats grown.state n a.active ≡ true → (attempt : Attempt) → IsAttempt r grown.state.blocks grown.active n attempt → IsTried r grown n attempt
+  pub tried_new : beats grown.state n a.active ≡ true → (attempt : TryOutcome) → IsTryOutcome r grown.state.blocks grown.active n attempt → IsTried r grown n attempt
   tried_new better attempt came = record {
     can = can_new;
     best = best_new better;

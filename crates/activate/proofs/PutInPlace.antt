@@ -9,7 +9,7 @@ use Rattle.coins.specs.Coins.{Coins}
 use Rattle.coins.specs.Changes.{Changes, AreChanges}
 use Rattle.tree.specs.Branches.{Kept as KeptBlock, Blocks, has, height, on, place_of, down_from}
 use Rattle.tree.specs.State.{State, has_no_mark, beats, with_block, with_mark, without_marks, with_call, union_where}
-use Rattle.tree.specs.declared.node.Mark.{Mark as BlockMark}
+use Rattle.tree.specs.declared.block_index.Mark.{Mark as BlockMark}
 use Rattle.tree.specs.Nodes.{AreMarks, IsMark, laid, mark_at}
 use Rattle.tree.specs.Names.{names}
 use Rattle.tree.specs.Sound.{IsBest}

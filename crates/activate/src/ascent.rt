@@ -43,7 +43,7 @@ pub(crate) struct Climb<'b, 'm, B: Base, W: Drop> {
 
 /// What a walk up a path leaves where a block doesn't connect.
 #[derive(Drop)]
-pub(crate) struct Stop {
+pub(crate) struct FailedBlock {
     /// How many blocks connect before that one.
     pub(crate) passed: usize,
     pub(crate) reason: Reason,
@@ -61,7 +61,7 @@ pub(crate) fn connect_up<'b, 'm, B: Base, S: RunsScripts>(
     path: &BranchPath,
     env: &S,
     gate: &(dyn Gate + Sync),
-) -> Result<Result<Climb<'b, 'm, B, S::Stop>, Stop>, S::Stop>
+) -> Result<Result<Climb<'b, 'm, B, S::Stop>, FailedBlock>, S::Stop>
     requires path { LeadsUp active_branch.now.tree.now.blocks path.now.fork path.now.up.items }
     requires kept { let b = active_branch.now in Under (S.known env.now) (λ triples.
         AllKept (regtest b.params.now triples) b.tree.now.blocks) }
@@ -102,7 +102,7 @@ pub(crate) fn connect_up<'b, 'm, B: Base, S: RunsScripts>(
             Err(reason) => {
                 return match wants {
                     Some(stop) => Err(stop),
-                    None => Ok(Err(Stop { passed, reason })),
+                    None => Ok(Err(FailedBlock { passed, reason })),
                 };
             }
         }

@@ -5,16 +5,16 @@ ghost use Rattle.model.specs.Regtest.{regtest};
 ghost use Rattle.model.specs.SubmissionFacts.{IsJudged};
 ghost use Rattle.activate.specs.Wants.{AreJoined};
 ghost use Rattle.activate.specs.inside.Ascents.{IsApplied, IsTop};
-ghost use Rattle.activate.specs.inside.Paths.{AreWantedOnWay, IsActiveBranch, IsAttempt, IsPath, IsStop, IsValid, one_more};
+ghost use Rattle.activate.specs.inside.Paths.{AreWantedOnWay, IsActiveBranch, IsTryOutcome, IsPath, IsStop, IsValid, one_more};
 ghost use Rattle.signatures.specs.Known.{Under};
-ghost use Rattle.activate.specs.declared.path.Attempt.TheVariants.{Fails};
+ghost use Rattle.activate.specs.declared.path.TryOutcome.TheVariants.{Fails};
 
-use crate::ascent::{Ascent, Climb, Stop, append, connect_up, more};
+use crate::ascent::{Ascent, Climb, FailedBlock, append, connect_up, more};
 use crate::disconnection::disconnect_to_fork;
 use crate::fork_search::path_to;
 use crate::medians::Medians;
 use crate::new_undo::NewUndo;
-use crate::path::{ActiveBranch, Attempt, BranchPath, FailedTry, Reorganisation};
+use crate::path::{ActiveBranch, BranchPath, FailedTry, Reorganisation, TryOutcome};
 use coins::{Base, Cache};
 use connect::{BlockWithIds, Context, RunsScripts, apply_in_layer};
 use model::SubmittedBlock;
@@ -32,14 +32,14 @@ impl<'a> ActiveBranch<'a> {
         place: usize,
         env: &S,
         gate: &(dyn Gate + Sync),
-    ) -> Result<Attempt, S::Stop>
+    ) -> Result<TryOutcome, S::Stop>
         requires active { IsActiveBranch self.now (B.coins base.now) }
         requires valid { Under (S.known env.now) (λ triples. let b = self.now in
             IsValid (regtest b.params.now triples) b.tree.now.blocks b.active) }
         requires place { place ≤ length self.now.tree.now.blocks }
         ensures attempt { IfOk result (λ attempt. Under (S.known env.now) (λ triples.
             let b = self.now in
-            IsAttempt (regtest b.params.now triples) b.tree.now.blocks b.active place attempt)) }
+            IsTryOutcome (regtest b.params.now triples) b.tree.now.blocks b.active place attempt)) }
         ensures wants { let b = self.now in IfErr result (λ stop. IfSome (S.told stop)
             (AreJoined (AreWantedOnWay b.params.now b.tree.now.blocks b.active place
             (S.known env.now)))) }
@@ -51,14 +51,14 @@ impl<'a> ActiveBranch<'a> {
                 None => {
                     let changes = ascent.layer.into_changes();
                     let undo = NewUndo::of(alloc, ascent.undo)?;
-                    Ok(Attempt::Succeeds(Reorganisation {
+                    Ok(TryOutcome::Succeeds(Reorganisation {
                         path,
                         undo,
                         changes,
                     }))
                 }
             },
-            Err(stop) => Ok(Attempt::Fails(FailedTry {
+            Err(stop) => Ok(TryOutcome::Fails(FailedTry {
                 path,
                 passed: stop.passed,
                 reason: stop.reason,
@@ -75,7 +75,7 @@ impl<'a> ActiveBranch<'a> {
         parent: usize,
         env: &S,
         gate: &(dyn Gate + Sync),
-    ) -> Result<Attempt, S::Stop>
+    ) -> Result<TryOutcome, S::Stop>
         requires active { IsActiveBranch self.now (B.coins base.now) }
         requires valid { Under (S.known env.now) (λ triples. let b = self.now in
             IsValid (regtest b.params.now triples) b.tree.now.blocks b.active) }
@@ -85,7 +85,7 @@ impl<'a> ActiveBranch<'a> {
         ensures attempt { IfOk result (λ attempt. Under (S.known env.now) (λ triples.
             let b = self.now in
             let t = b.tree.now.blocks in
-            IsAttempt (regtest b.params.now triples)
+            IsTryOutcome (regtest b.params.now triples)
             (one_more t submitted.now.block parent) b.active (suc (length t))
             attempt)) }
         ensures wants { IfErr result (λ stop. IfSome (S.told stop) (
@@ -118,7 +118,7 @@ impl<'a> ActiveBranch<'a> {
                     append(&mut undo, done.undo)?;
                     let undo = NewUndo::of(alloc, undo)?;
                     let changes = done.layer.into_changes();
-                    Ok(Attempt::Succeeds(Reorganisation {
+                    Ok(TryOutcome::Succeeds(Reorganisation {
                         path,
                         undo,
                         changes,
@@ -141,7 +141,7 @@ impl<'a> ActiveBranch<'a> {
         place: usize,
         env: &S,
         gate: &(dyn Gate + Sync),
-    ) -> Result<(BranchPath, Result<Climb<'b, 'a, B, S::Stop>, Stop>), S::Stop>
+    ) -> Result<(BranchPath, Result<Climb<'b, 'a, B, S::Stop>, FailedBlock>), S::Stop>
         requires active { IsActiveBranch self.now (B.coins base.now) }
         requires valid { Under (S.known env.now) (λ triples. let b = self.now in
             IsValid (regtest b.params.now triples) b.tree.now.blocks b.active) }
@@ -181,10 +181,10 @@ impl<'a> ActiveBranch<'a> {
 }
 
 /// A try that ended at a block with a fault.
-fn failed(path: BranchPath, passed: usize, reason: Reason) -> Attempt
+fn failed(path: BranchPath, passed: usize, reason: Reason) -> TryOutcome
     ensures { result ≡ Fails (record { path = path; passed = passed; reason = reason }) }
 {
-    Attempt::Fails(FailedTry {
+    TryOutcome::Fails(FailedTry {
         path,
         passed,
         reason,

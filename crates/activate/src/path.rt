@@ -56,7 +56,7 @@ pub(crate) struct FailedTry {
 
 /// The outcome of a try of a block.
 #[derive(Drop)]
-pub(crate) enum Attempt {
+pub(crate) enum TryOutcome {
     Succeeds(Reorganisation),
     Fails(FailedTry),
 }

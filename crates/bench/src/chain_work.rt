@@ -4,7 +4,7 @@ ghost use Rattle.activate.specs.CoreState.{IsChainstate};
 
 use crate::check::Check;
 use crate::clock::{Outcome, Timer};
-use crate::fault::Fault;
+use crate::fault::BenchFault;
 use activate::Chainstate;
 use connect::Env;
 use model::{Bytes, Command};
@@ -27,7 +27,7 @@ const BESIDE: usize = 10_000;
 
 /// What is submitted to a chainstate.
 #[derive(Clone, Copy)]
-pub enum Growth {
+pub enum ChainGrowth {
     /// A number of blocks of this branch, and then a number of blocks above them, which are timed.
     Above(Branch, usize, usize),
     /// A number of blocks on genesis, of which the first stays the active one and the others stand beside it.
@@ -37,15 +37,15 @@ pub enum Growth {
     Reorganised(usize),
 }
 
-impl Growth {
+impl ChainGrowth {
     /// A hundred blocks above so many.
-    pub fn hundred_above(height: usize) -> Growth {
-        Growth::Above(Branch::new(1), height, TIMED)
+    pub fn hundred_above(height: usize) -> ChainGrowth {
+        ChainGrowth::Above(Branch::new(1), height, TIMED)
     }
 }
 
 /// Submits blocks to a chainstate, of which the last ones are timed.
-pub fn grown<R: AllocGlobal + Clock>(rt: &R, growth: Growth) -> Result<Outcome, Fault> {
+pub fn grown<R: AllocGlobal + Clock>(rt: &R, growth: ChainGrowth) -> Result<Outcome, BenchFault> {
     let table = Table::new(rt.alloc());
     let mut chain = Chainstate::new(rt.alloc())?;
     grown_on(rt, &mut chain, &table, growth)
@@ -55,8 +55,8 @@ fn grown_on<R: AllocGlobal + Clock>(
     rt: &R,
     chain: &mut Chainstate,
     table: &Table,
-    growth: Growth,
-) -> Result<Outcome, Fault>
+    growth: ChainGrowth,
+) -> Result<Outcome, BenchFault>
     requires { IsChainstate chain.old table.now }
 {
     let commands = ready(rt.alloc(), chain, table, growth)?;
@@ -70,15 +70,17 @@ fn ready(
     alloc: Global,
     chain: &mut Chainstate,
     table: &Table,
-    growth: Growth,
-) -> Result<Vec<Command>, Fault>
+    growth: ChainGrowth,
+) -> Result<Vec<Command>, BenchFault>
     requires { IsChainstate chain.old table.now }
     ensures { IsChainstate chain.new table.now }
 {
     match growth {
-        Growth::Above(branch, height, count) => above(alloc, chain, table, branch, height, count),
-        Growth::Beside(count) => Ok(beside(alloc, count)?),
-        Growth::Reorganised(depth) => {
+        ChainGrowth::Above(branch, height, count) => above(
+            alloc, chain, table, branch, height, count,
+        ),
+        ChainGrowth::Beside(count) => Ok(beside(alloc, count)?),
+        ChainGrowth::Reorganised(depth) => {
             fork(alloc, chain, table, depth)?;
             above(alloc, chain, table, Branch::new(2), depth, 1)
         }
@@ -86,7 +88,12 @@ fn ready(
 }
 
 /// Submits so many blocks of the first branch, and ten thousand on genesis.
-fn fork(alloc: Global, chain: &mut Chainstate, table: &Table, depth: usize) -> Result<(), Fault>
+fn fork(
+    alloc: Global,
+    chain: &mut Chainstate,
+    table: &Table,
+    depth: usize,
+) -> Result<(), BenchFault>
     requires { IsChainstate chain.old table.now }
     ensures { IsChainstate chain.new table.now }
 {
@@ -102,7 +109,7 @@ fn above(
     mut branch: Branch,
     height: usize,
     count: usize,
-) -> Result<Vec<Command>, Fault>
+) -> Result<Vec<Command>, BenchFault>
     requires { IsChainstate chain.old table.now }
     ensures { IsChainstate chain.new table.now }
 {
@@ -115,8 +122,8 @@ fn take_made(
     alloc: Global,
     chain: &mut Chainstate,
     table: &Table,
-    commands: Result<Vec<Command>, inputs::Fault>,
-) -> Result<(), Fault>
+    commands: Result<Vec<Command>, inputs::InputsFault>,
+) -> Result<(), BenchFault>
     requires { IsChainstate chain.old table.now }
     ensures { IsChainstate chain.new table.now }
 {
@@ -130,7 +137,7 @@ fn take_each(
     chain: &mut Chainstate,
     table: &Table,
     commands: &[Command],
-) -> Result<(), Fault>
+) -> Result<(), BenchFault>
     requires { IsChainstate chain.old table.now }
     ensures { IsChainstate chain.new table.now }
 {
@@ -145,7 +152,7 @@ fn take_each(
 }
 
 /// The submission of a branch's next block, without payments.
-fn next(alloc: Global, branch: &mut Branch) -> Result<Command, inputs::Fault> {
+fn next(alloc: Global, branch: &mut Branch) -> Result<Command, inputs::InputsFault> {
     let bytes = branch.next_bytes(alloc, Vec::new(alloc))?;
     // A list with no room beyond them, as a node makes it of bytes that are lent.
     Ok(Command::Submit(Bytes::from_slice(alloc, &bytes)?, NOW))
@@ -156,7 +163,7 @@ fn next_ones(
     alloc: Global,
     branch: &mut Branch,
     count: usize,
-) -> Result<Vec<Command>, inputs::Fault> {
+) -> Result<Vec<Command>, inputs::InputsFault> {
     let mut commands = Vec::with_capacity(alloc, count)?;
     for _ in 0..count {
         put_made(&mut commands, next(alloc, branch))?;
@@ -165,7 +172,7 @@ fn next_ones(
 }
 
 /// Submissions of blocks on genesis.
-fn beside(alloc: Global, count: usize) -> Result<Vec<Command>, inputs::Fault> {
+fn beside(alloc: Global, count: usize) -> Result<Vec<Command>, inputs::InputsFault> {
     let mut commands = Vec::with_capacity(alloc, count)?;
     for number in 0..count {
         put_made(&mut commands, first(alloc, number))?;
@@ -174,7 +181,7 @@ fn beside(alloc: Global, count: usize) -> Result<Vec<Command>, inputs::Fault> {
 }
 
 /// The submission of a block on genesis, whose branch has this number.
-fn first(alloc: Global, number: usize) -> Result<Command, inputs::Fault> {
+fn first(alloc: Global, number: usize) -> Result<Command, inputs::InputsFault> {
     let number = (number % 1_000_000) as u32;
     next(alloc, &mut Branch::new(number.wrapping_add(10)))
 }

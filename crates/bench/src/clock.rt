@@ -1,7 +1,7 @@
 //! Time, as the monotonic clock has it.
 
 use crate::check::Check;
-use crate::fault::Fault;
+use crate::fault::BenchFault;
 use std::rt::Clock;
 use std::time::{Duration, Instant};
 
@@ -27,15 +27,19 @@ impl Timer {
     }
 
     /// How long it took until now.
-    pub fn spent(self, clock: &impl Clock) -> Result<Duration, Fault> {
+    pub fn spent(self, clock: &impl Clock) -> Result<Duration, BenchFault> {
         match self.begin {
             Some(begin) => Ok(begin.elapsed(clock)?),
-            None => Err(Fault::Io),
+            None => Err(BenchFault::Io),
         }
     }
 
     /// The result of a workload that ends now, where it came to one.
-    pub fn stop(self, clock: &impl Clock, check: Result<Check, Fault>) -> Result<Outcome, Fault> {
+    pub fn stop(
+        self,
+        clock: &impl Clock,
+        check: Result<Check, BenchFault>,
+    ) -> Result<Outcome, BenchFault> {
         let spent = self.spent(clock)?;
         let check = check?;
         Ok(Outcome { check, spent })

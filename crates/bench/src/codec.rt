@@ -2,7 +2,7 @@
 
 use crate::check::Check;
 use crate::clock::{Outcome, Timer};
-use crate::fault::{Fault, read_again};
+use crate::fault::{BenchFault, read_again};
 use block::{BlkReader, Block, SliceSource};
 use hash::{Id, double_sha};
 use rules::block_alone;
@@ -18,7 +18,7 @@ use workloads::inputs::payments::block_of;
 const NONE: Id = Id([0; 32]);
 
 /// Reading a block of so many payments from its bytes. The last payment's id is the check.
-pub fn decode<R: AllocGlobal + Clock>(rt: &R, size: usize) -> Result<Outcome, Fault> {
+pub fn decode<R: AllocGlobal + Clock>(rt: &R, size: usize) -> Result<Outcome, BenchFault> {
     let bytes = block_bytes(rt.alloc(), size)?;
     let timer = Timer::start(rt);
     let block = read_again(block::read(rt.alloc(), bytes.as_slice()));
@@ -29,8 +29,8 @@ pub fn decode<R: AllocGlobal + Clock>(rt: &R, size: usize) -> Result<Outcome, Fa
 fn decoded(
     clock: &impl Clock,
     timer: Timer,
-    block: Result<Block, Fault>,
-) -> Result<Outcome, Fault> {
+    block: Result<Block, BenchFault>,
+) -> Result<Outcome, BenchFault> {
     let block = block?;
     let spent = timer.spent(clock)?;
     let check = Check::of_id(last_id(&block));
@@ -46,7 +46,7 @@ fn last_id(block: &Block) -> Id {
 }
 
 /// The ids of so many payments.
-pub fn payment_ids<R: AllocGlobal + Clock>(rt: &R, size: usize) -> Result<Outcome, Fault> {
+pub fn payment_ids<R: AllocGlobal + Clock>(rt: &R, size: usize) -> Result<Outcome, BenchFault> {
     let block = block_of(rt.alloc(), size)?;
     let timer = Timer::start(rt);
     let ids = ids(rt.alloc(), block.txs.as_slice())?;
@@ -61,14 +61,14 @@ fn last_of(ids: &[Id]) -> Id {
 }
 
 /// The rules that a block of so many payments obeys by itself. Its Merkle root is the check if it does.
-pub fn alone<R: AllocGlobal + Clock>(rt: &R, size: usize) -> Result<Outcome, Fault> {
+pub fn alone<R: AllocGlobal + Clock>(rt: &R, size: usize) -> Result<Outcome, BenchFault> {
     let block = block_of(rt.alloc(), size)?;
     let timer = Timer::start(rt);
     timer.stop(rt, judged(rt.alloc(), &block))
 }
 
 /// A block's Merkle root, or the rule that it breaks.
-fn judged(alloc: Global, block: &Block) -> Result<Check, Fault> {
+fn judged(alloc: Global, block: &Block) -> Result<Check, BenchFault> {
     Ok(match block_alone(alloc, block)? {
         None => Check::of_id(block.header.root),
         Some(reason) => Check::Count(u64::from(reason.number())),
@@ -76,7 +76,7 @@ fn judged(alloc: Global, block: &Block) -> Result<Check, Fault> {
 }
 
 /// Writing a block of so many payments.
-pub fn write<R: AllocGlobal + Clock>(rt: &R, size: usize) -> Result<Outcome, Fault> {
+pub fn write<R: AllocGlobal + Clock>(rt: &R, size: usize) -> Result<Outcome, BenchFault> {
     let block = block_of(rt.alloc(), size)?;
     let timer = Timer::start(rt);
     written(rt, timer, bytes_of(rt.alloc(), &block))
@@ -86,8 +86,8 @@ pub fn write<R: AllocGlobal + Clock>(rt: &R, size: usize) -> Result<Outcome, Fau
 fn written(
     clock: &impl Clock,
     timer: Timer,
-    bytes: Result<Vec<u8>, inputs::Fault>,
-) -> Result<Outcome, Fault> {
+    bytes: Result<Vec<u8>, inputs::InputsFault>,
+) -> Result<Outcome, BenchFault> {
     let bytes = bytes?;
     let spent = timer.spent(clock)?;
     let check = Check::of_digest(double_sha(bytes.as_slice()));
@@ -95,14 +95,14 @@ fn written(
 }
 
 /// Reading a blk file of so many records. The bytes of all of them are counted.
-pub fn records<R: AllocGlobal + Clock>(rt: &R, size: usize) -> Result<Outcome, Fault> {
+pub fn records<R: AllocGlobal + Clock>(rt: &R, size: usize) -> Result<Outcome, BenchFault> {
     let file = blk_file(rt.alloc(), size)?;
     let timer = Timer::start(rt);
     timer.stop(rt, read_records(rt.alloc(), file.as_slice(), size))
 }
 
 /// How many bytes the first records have.
-fn read_records(alloc: Global, file: &[u8], count: usize) -> Result<Check, Fault> {
+fn read_records(alloc: Global, file: &[u8], count: usize) -> Result<Check, BenchFault> {
     let mut reader = BlkReader::new(alloc, SliceSource::new(file));
     let mut bytes = 0u64;
     for _ in 0..count {

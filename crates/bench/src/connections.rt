@@ -9,7 +9,7 @@ ghost use Rattle.queue.specs.Jobs.{known_then};
 
 use crate::check::Check;
 use crate::clock::{Outcome, Timer};
-use crate::fault::{Fault, read_again};
+use crate::fault::{BenchFault, read_again};
 use block::Block;
 use coins::{Cache, CoinMap};
 use connect::{BlockWithIds, Context, Env, connect};
@@ -34,7 +34,7 @@ const PAYMENTS: usize = 2000;
 
 /// A block of 2,000 payments connected to so many coins and those that it spends, its scripts run by so many
 /// workers. The inputs are counted.
-pub fn connected<R>(rt: &R, size: usize, workers: usize) -> Result<Outcome, Fault>
+pub fn connected<R>(rt: &R, size: usize, workers: usize) -> Result<Outcome, BenchFault>
 where
     R: AllocGlobal + Clock + Threads + Sync,
 {
@@ -44,7 +44,7 @@ where
 }
 
 /// The same over coins that are there.
-fn connected_over<R>(rt: &R, map: &mut CoinMap, workers: usize) -> Result<Outcome, Fault>
+fn connected_over<R>(rt: &R, map: &mut CoinMap, workers: usize) -> Result<Outcome, BenchFault>
 where
     R: AllocGlobal + Clock + Threads + Sync,
     requires workers { (1 ≤ workers) × (workers ≤ 16) }
@@ -65,7 +65,7 @@ pub fn timed<'a, R, C: Crew<Table>>(
     workers: usize,
     early: &'a [Verdicts<'a>],
     crew: &'a C,
-) -> Result<Outcome, Fault>
+) -> Result<Outcome, BenchFault>
 where
     R: AllocGlobal + Clock,
     requires ready { C.is_ready crew.now }
@@ -89,14 +89,14 @@ where
 }
 
 /// The ids of a block's transactions, where it breaks no rule by itself.
-fn ids_alone(alloc: Global, block: &Block) -> Result<Vec<Id>, Fault>
+fn ids_alone(alloc: Global, block: &Block) -> Result<Vec<Id>, BenchFault>
     ensures alone { IfOk result (λ ids. first_broken (alone_rules block.now) ≡ None) }
     ensures ids { IfOk result (λ ids. ids.items ≡ ids_of block.now.txs) }
 {
     let ids = ids(alloc, block.txs.as_slice())?;
     match block_alone_with(alloc, block, &block.id(), &ids)? {
         None => Ok(ids),
-        Some(_) => Err(Fault::Unread),
+        Some(_) => Err(BenchFault::Unread),
     }
 }
 
@@ -107,7 +107,7 @@ fn undo_of<C: Crew<Table>>(
     block: &Block,
     ids: &[Id],
     env: &Env<'_, Table, C>,
-) -> Result<BlockUndo, Fault>
+) -> Result<BlockUndo, BenchFault>
     requires alone { first_broken (alone_rules block.now) ≡ None }
     requires ids { ids.now ≡ ids_of block.now.txs }
 {
@@ -125,8 +125,8 @@ fn undo_of<C: Crew<Table>>(
 fn counted(
     clock: &impl Clock,
     timer: Timer,
-    undo: Result<BlockUndo, Fault>,
-) -> Result<Outcome, Fault> {
+    undo: Result<BlockUndo, BenchFault>,
+) -> Result<Outcome, BenchFault> {
     let undo = undo?;
     timer.stop(clock, Ok(Check::Count(count(&undo))))
 }

@@ -2,7 +2,7 @@
 
 use crate::clock::Outcome;
 use crate::connections::{HEIGHT, timed};
-use crate::fault::Fault;
+use crate::fault::BenchFault;
 use block::Block;
 use coins::CoinMap;
 use connect::early_jobs;
@@ -17,7 +17,7 @@ use txn::ids;
 use workloads::inputs::blocks::wide_block;
 
 /// The scripts of a block that can be run before it's connected.
-fn jobs<'b>(alloc: Global, map: &CoinMap, block: &'b Block) -> Result<EarlyJobs<'b>, Fault> {
+fn jobs<'b>(alloc: Global, map: &CoinMap, block: &'b Block) -> Result<EarlyJobs<'b>, BenchFault> {
     let ids = ids(alloc, block.txs.as_slice())?;
     let flags = Params::regtest().at(HEIGHT);
     Ok(early_jobs(alloc, map, block, &ids, flags)?)
@@ -25,7 +25,7 @@ fn jobs<'b>(alloc: Global, map: &CoinMap, block: &'b Block) -> Result<EarlyJobs<
 
 /// A block whose one transaction has so many inputs, connected where the verdicts of all of them are at hand. The inputs
 /// are counted.
-pub fn wide<R>(rt: &R, size: usize) -> Result<Outcome, Fault>
+pub fn wide<R>(rt: &R, size: usize) -> Result<Outcome, BenchFault>
 where
     R: AllocGlobal + Clock + Threads + Sync,
 {
@@ -35,7 +35,7 @@ where
 }
 
 /// A block connected whose scripts were run before.
-fn judged_before<R>(rt: &R, map: &CoinMap, block: &Block) -> Result<Outcome, Fault>
+fn judged_before<R>(rt: &R, map: &CoinMap, block: &Block) -> Result<Outcome, BenchFault>
 where
     R: AllocGlobal + Clock + Threads + Sync,
 {

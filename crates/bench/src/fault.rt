@@ -7,7 +7,7 @@ use workloads::inputs;
 
 /// Why a run ends without its lines. Its `Display` is the line on the standard error.
 #[derive(Drop)]
-pub enum Fault {
+pub enum BenchFault {
     /// The command line has other words than a workload's name and a size.
     Words,
     Memory,
@@ -22,68 +22,68 @@ pub enum Fault {
 }
 
 /// What was made here, or that it isn't read again.
-pub fn read_again<T, E: Drop>(read: Result<T, E>) -> Result<T, Fault> {
+pub fn read_again<T, E: Drop>(read: Result<T, E>) -> Result<T, BenchFault> {
     match read {
         Ok(value) => Ok(value),
-        Err(_) => Err(Fault::Unread),
+        Err(_) => Err(BenchFault::Unread),
     }
 }
 
-impl fmt::Display for Fault {
+impl fmt::Display for BenchFault {
     fn fmt<W: fmt::Write>(&self, f: &mut fmt::Formatter<W>) -> fmt::Result {
         let text = match self {
-            Fault::Words => "usage: bench [WORKLOAD SIZE]",
-            Fault::Memory => "memory",
-            Fault::TooManyCoins => "too many coins",
-            Fault::Io => "the clock or the output failed",
-            Fault::Unread => "a block is not read",
-            Fault::Node => "the node failed",
+            BenchFault::Words => "usage: bench [WORKLOAD SIZE]",
+            BenchFault::Memory => "memory",
+            BenchFault::TooManyCoins => "too many coins",
+            BenchFault::Io => "the clock or the output failed",
+            BenchFault::Unread => "a block is not read",
+            BenchFault::Node => "the node failed",
         };
         writeln!(f, "bench: {text}")
     }
 }
 
-impl From<inputs::Fault> for Fault {
-    fn from(fault: inputs::Fault) -> Self {
+impl From<inputs::InputsFault> for BenchFault {
+    fn from(fault: inputs::InputsFault) -> Self {
         match fault {
-            inputs::Fault::Memory => Fault::Memory,
-            inputs::Fault::TooManyCoins => Fault::TooManyCoins,
+            inputs::InputsFault::Memory => BenchFault::Memory,
+            inputs::InputsFault::TooManyCoins => BenchFault::TooManyCoins,
         }
     }
 }
 
-impl From<Memory> for Fault {
+impl From<Memory> for BenchFault {
     fn from(_fault: Memory) -> Self {
-        Fault::Memory
+        BenchFault::Memory
     }
 }
 
-impl From<AllocError> for Fault {
+impl From<AllocError> for BenchFault {
     fn from(_error: AllocError) -> Self {
-        Fault::Memory
+        BenchFault::Memory
     }
 }
 
-impl<T: Drop> From<AllocFailed<T>> for Fault {
+impl<T: Drop> From<AllocFailed<T>> for BenchFault {
     fn from(_error: AllocFailed<T>) -> Self {
-        Fault::Memory
+        BenchFault::Memory
     }
 }
 
-impl From<io::Error> for Fault {
+impl From<io::Error> for BenchFault {
     fn from(_error: io::Error) -> Self {
-        Fault::Io
+        BenchFault::Io
     }
 }
 
-impl From<node::Fault> for Fault {
+impl From<node::Fault> for BenchFault {
     fn from(_fault: node::Fault) -> Self {
-        Fault::Node
+        BenchFault::Node
     }
 }
 
-impl From<node::OpenFault> for Fault {
+impl From<node::OpenFault> for BenchFault {
     fn from(_fault: node::OpenFault) -> Self {
-        Fault::Node
+        BenchFault::Node
     }
 }

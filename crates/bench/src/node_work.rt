@@ -4,8 +4,8 @@ ghost use Rattle.std.specs.Prelude.{◌≡◌};
 
 use crate::check::Check;
 use crate::clock::{Outcome, Timer};
-use crate::fault::Fault;
-use crate::plan::{Plan, Work};
+use crate::fault::BenchFault;
+use crate::plan::{Plan, SeatWorkload};
 use crate::read_work::reads_beside;
 use crate::seat_work::{at_once, in_turn, submit, submit_each};
 use node::{Naming, Node, Open, Opening, Params, Seat, Table};
@@ -17,7 +17,7 @@ use workloads::inputs;
 use workloads::inputs::branch::Branch;
 
 /// Opens a node, submits blocks, which aren't timed, and has its seats do their work, where that was made.
-pub fn at_node<R>(rt: &R, plan: Result<Plan, inputs::Fault>) -> Result<Outcome, Fault>
+pub fn at_node<R>(rt: &R, plan: Result<Plan, inputs::InputsFault>) -> Result<Outcome, BenchFault>
 where
     R: AllocGlobal + Clock + Threads + Wait + Sync,
 {
@@ -29,7 +29,7 @@ where
 
 /// Opens a node, does the work on it, and ends it. The plan is its caller's, and freed behind all: freed before what is
 /// timed, the blocks' bytes would have the next allocation sort what the allocator has free.
-fn on_node<J: Naming, R>(rt: &R, opening: Opening<'_>, plan: &Plan) -> Result<Outcome, Fault>
+fn on_node<J: Naming, R>(rt: &R, opening: Opening<'_>, plan: &Plan) -> Result<Outcome, BenchFault>
 where
     R: AllocGlobal + Clock + Threads + Wait + Sync,
     requires { opening ≡ J.origin }
@@ -42,8 +42,8 @@ where
 /// What was done on a node, where that ended.
 fn ended<H: Drop>(
     history: Result<H, node::EndFault>,
-    outcome: Result<Outcome, Fault>,
-) -> Result<Outcome, Fault> {
+    outcome: Result<Outcome, BenchFault>,
+) -> Result<Outcome, BenchFault> {
     history.map_err(node::Fault::from)?;
     outcome
 }
@@ -53,7 +53,7 @@ fn prepared<J: Naming, R>(
     node: &Node<'_, J>,
     seats: &mut [Seat<'_, J>],
     plan: &Plan,
-) -> Result<Outcome, Fault>
+) -> Result<Outcome, BenchFault>
 where
     R: AllocGlobal + Clock + Threads + Wait + Sync,
 {
@@ -67,14 +67,14 @@ fn submit_below<J: Naming, R>(
     node: &Node<'_, J>,
     seats: &mut [Seat<'_, J>],
     below: &[Vec<u8>],
-) -> Result<(), Fault>
+) -> Result<(), BenchFault>
 where
     R: Threads + Wait + Sync,
 {
     if let Some(seat) = seats.first_mut() {
         let kept = submit_each(rt, node, seat, below)?;
         if kept != below.len() as u64 {
-            return Err(Fault::Unread);
+            return Err(BenchFault::Unread);
         }
     }
     Ok(())
@@ -84,16 +84,22 @@ fn done<J: Naming, R>(
     rt: &R,
     node: &Node<'_, J>,
     seats: &mut [Seat<'_, J>],
-    work: &Work,
-) -> Result<Outcome, Fault>
+    work: &SeatWorkload,
+) -> Result<Outcome, BenchFault>
 where
     R: AllocGlobal + Clock + Threads + Wait + Sync,
 {
     match work {
-        Work::Beside(_, _, blocks) => reads_beside(rt, node, work, blocks.as_slice(), seats),
-        Work::Turns(blocks) => in_turn(rt, node, seats, blocks.as_slice()),
-        Work::Kept(branch, count) => kept(rt, node, seats, *branch, *count),
-        Work::Reads(_, _) | Work::Branches(_) => at_once(rt, node, work, seats),
+        SeatWorkload::Beside(_, _, blocks) => reads_beside(
+            rt,
+            node,
+            work,
+            blocks.as_slice(),
+            seats,
+        ),
+        SeatWorkload::Turns(blocks) => in_turn(rt, node, seats, blocks.as_slice()),
+        SeatWorkload::Kept(branch, count) => kept(rt, node, seats, *branch, *count),
+        SeatWorkload::Reads(_, _) | SeatWorkload::Branches(_) => at_once(rt, node, work, seats),
     }
 }
 
@@ -104,14 +110,14 @@ fn kept<J: Naming, R>(
     seats: &mut [Seat<'_, J>],
     branch: Branch,
     count: usize,
-) -> Result<Outcome, Fault>
+) -> Result<Outcome, BenchFault>
 where
     R: AllocGlobal + Clock + Threads + Wait + Sync,
 {
     let timer = Timer::start(rt);
     let kept = match seats.first_mut() {
         Some(seat) => submit_next_ones(rt, node, seat, branch, count),
-        None => Err(Fault::Node),
+        None => Err(BenchFault::Node),
     };
     timer.stop(rt, kept)
 }
@@ -122,7 +128,7 @@ fn submit_next_ones<J: Naming, R>(
     seat: &mut Seat<'_, J>,
     mut branch: Branch,
     count: usize,
-) -> Result<Check, Fault>
+) -> Result<Check, BenchFault>
 where
     R: AllocGlobal + Threads + Wait + Sync,
 {
@@ -139,8 +145,8 @@ fn submit_made<J: Naming, R>(
     rt: &R,
     node: &Node<'_, J>,
     seat: &mut Seat<'_, J>,
-    bytes: Result<Vec<u8>, inputs::Fault>,
-) -> Result<u64, Fault>
+    bytes: Result<Vec<u8>, inputs::InputsFault>,
+) -> Result<u64, BenchFault>
 where
     R: Threads + Wait + Sync,
 {

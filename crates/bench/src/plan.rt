@@ -1,9 +1,9 @@
 //! The chains over which a node is timed, and what its seats do there.
 
-use crate::read_work::Look;
+use crate::read_work::ReadKind;
 use std::alloc::Global;
 use txn::OutPoint;
-use workloads::inputs::Fault;
+use workloads::inputs::InputsFault;
 use workloads::inputs::branch::Branch;
 use workloads::inputs::scripts::long_script_alone;
 use workloads::inputs::start::{Start, branches as branches_of, paying};
@@ -28,11 +28,11 @@ const READ: usize = 10_000;
 
 /// What the seats of a node do.
 #[derive(Drop)]
-pub enum Work {
+pub enum SeatWorkload {
     /// Each reads each place.
-    Reads(Vec<OutPoint>, Look),
+    Reads(Vec<OutPoint>, ReadKind),
     /// The first submits blocks, and the others read.
-    Beside(Vec<OutPoint>, Look, Vec<Vec<u8>>),
+    Beside(Vec<OutPoint>, ReadKind, Vec<Vec<u8>>),
     /// They submit blocks in turn.
     Turns(Vec<Vec<u8>>),
     /// They share branches.
@@ -48,42 +48,47 @@ pub struct Plan {
     pub workers: usize,
     /// The blocks that are submitted before, which isn't timed.
     pub below: Vec<Vec<u8>>,
-    pub work: Work,
+    pub work: SeatWorkload,
 }
 
 /// Each seat reads this many coins.
-pub fn reads(alloc: Global, coins: usize, seats: usize, look: Look) -> Result<Plan, Fault> {
+pub fn reads(
+    alloc: Global,
+    coins: usize,
+    seats: usize,
+    look: ReadKind,
+) -> Result<Plan, InputsFault> {
     let start = Start::shuffled(alloc, 0, coins)?;
     Ok(Plan {
         seats,
         workers: 1,
         below: start.blocks,
-        work: Work::Reads(start.spread, look),
+        work: SeatWorkload::Reads(start.spread, look),
     })
 }
 
 /// The same while another seat submits blocks of 2,000 payments.
-pub fn reads_beside(alloc: Global, coins: usize, readers: usize) -> Result<Plan, Fault> {
+pub fn reads_beside(alloc: Global, coins: usize, readers: usize) -> Result<Plan, InputsFault> {
     let start = Start::shuffled(alloc, PAYMENTS.saturating_mul(2), coins);
     let count = (coins / 1000).clamp(2, 60);
-    beside(alloc, start, count, readers, Look::Coin)
+    beside(alloc, start, count, readers, ReadKind::Coin)
 }
 
 /// The slowest of a million reads while another seat submits blocks of so many payments.
-pub fn slowest(alloc: Global, payments: usize) -> Result<Plan, Fault> {
+pub fn slowest(alloc: Global, payments: usize) -> Result<Plan, InputsFault> {
     let start = Start::shuffled(alloc, payments, payments.saturating_mul(20).min(READ));
     let count = SLOWEST.checked_div(payments).unwrap_or(0).min(MANY);
-    beside(alloc, start, count, 1, Look::Slowest)
+    beside(alloc, start, count, 1, ReadKind::Slowest)
 }
 
 /// Reads of a chain's coins, where it was made, beside so many blocks that pay its others.
 fn beside(
     alloc: Global,
-    start: Result<Start, Fault>,
+    start: Result<Start, InputsFault>,
     count: usize,
     readers: usize,
-    look: Look,
-) -> Result<Plan, Fault> {
+    look: ReadKind,
+) -> Result<Plan, InputsFault> {
     let start = start?;
     let written = paying(alloc, start.branch, start.coins.as_slice(), count)?;
     let Start { blocks, spread, .. } = start;
@@ -91,35 +96,35 @@ fn beside(
         seats: readers.saturating_add(1),
         workers: 1,
         below: blocks,
-        work: Work::Beside(spread, look, written),
+        work: SeatWorkload::Beside(spread, look, written),
     })
 }
 
 /// Blocks that pay a chain's coins, where it was made, submitted by seats in turn.
 fn in_turn(
     alloc: Global,
-    start: Result<Start, Fault>,
+    start: Result<Start, InputsFault>,
     count: usize,
     seats: usize,
     workers: usize,
-) -> Result<Plan, Fault> {
+) -> Result<Plan, InputsFault> {
     let start = start?;
     let written = paying(alloc, start.branch, start.coins.as_slice(), count)?;
     Ok(Plan {
         seats,
         workers,
         below: start.blocks,
-        work: Work::Turns(written),
+        work: SeatWorkload::Turns(written),
     })
 }
 
 /// This many blocks of 1,000 payments on one branch.
-pub fn turns(alloc: Global, count: usize, seats: usize) -> Result<Plan, Fault> {
+pub fn turns(alloc: Global, count: usize, seats: usize) -> Result<Plan, InputsFault> {
     in_turn(alloc, Start::shuffled(alloc, PAYMENTS, 0), count, seats, 1)
 }
 
 /// Ten blocks of so many payments over so many coins, each of which changes two coins for a payment and one more.
-pub fn published(alloc: Global, coins: usize, payments: usize) -> Result<Plan, Fault> {
+pub fn published(alloc: Global, coins: usize, payments: usize) -> Result<Plan, InputsFault> {
     // few at a small size
     let mut start = Start::shuffled(alloc, payments.min(coins), coins)?;
     // The first of these brings up to date the copy that the last step didn't change, and frees what was kept for that;
@@ -130,19 +135,19 @@ pub fn published(alloc: Global, coins: usize, payments: usize) -> Result<Plan, F
 
 /// A block of so many payments whose scripts are what costs, each with 66 CHECKSIG over 9,600 opcodes, submitted to a
 /// node of so many workers.
-pub fn worked(alloc: Global, payments: usize, workers: usize) -> Result<Plan, Fault> {
+pub fn worked(alloc: Global, payments: usize, workers: usize) -> Result<Plan, InputsFault> {
     let script = long_script_alone(alloc)?;
     let start = Start::new(alloc, payments, script.as_slice());
     in_turn(alloc, start, 1, 1, workers)
 }
 
 /// A node of so many coins, at which nothing is timed.
-pub fn kept_coins(alloc: Global, coins: usize) -> Result<Plan, Fault> {
+pub fn kept_coins(alloc: Global, coins: usize) -> Result<Plan, InputsFault> {
     in_turn(alloc, Start::shuffled(alloc, 0, coins), 0, 1, 1)
 }
 
 /// Four branches of so many blocks of 1,000 payments on one base, beside a longer one, by so many seats at once.
-pub fn branches(alloc: Global, count: usize, seats: usize) -> Result<Plan, Fault> {
+pub fn branches(alloc: Global, count: usize, seats: usize) -> Result<Plan, InputsFault> {
     let mut start = Start::shuffled(alloc, PAYMENTS, 0)?;
     let branches = branches_of(alloc, start.branch, start.coins.as_slice(), BRANCHES, count)?;
     start.add_empty(alloc, count.saturating_add(1))?;
@@ -150,7 +155,7 @@ pub fn branches(alloc: Global, count: usize, seats: usize) -> Result<Plan, Fault
         seats,
         workers: 1,
         below: start.blocks,
-        work: Work::Branches(branches),
+        work: SeatWorkload::Branches(branches),
     })
 }
 
@@ -160,6 +165,6 @@ pub fn kept(alloc: Global, branch: Branch, count: usize) -> Plan {
         seats: 1,
         workers: 1,
         below: Vec::new(alloc),
-        work: Work::Kept(branch, count),
+        work: SeatWorkload::Kept(branch, count),
     }
 }

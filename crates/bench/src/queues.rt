@@ -5,7 +5,7 @@ ghost use Rattle.queue.specs.Jobs.{HasInput};
 
 use crate::check::Check;
 use crate::clock::{Outcome, Timer};
-use crate::fault::Fault;
+use crate::fault::BenchFault;
 use crate::scripts;
 use interp::Job;
 use queue::{Crew, Open, Runs, Threaded, first_failure};
@@ -36,10 +36,10 @@ pub enum Runner {
 /// The scripts of these spends, where they were made, run so often.
 pub fn checked<R>(
     rt: &R,
-    spends: Result<Spends, inputs::Fault>,
+    spends: Result<Spends, inputs::InputsFault>,
     runner: Runner,
     times: usize,
-) -> Result<Outcome, Fault>
+) -> Result<Outcome, BenchFault>
 where
     R: AllocGlobal + Clock + Threads + Sync,
 {
@@ -54,7 +54,7 @@ fn timed<R>(
     table: &Table,
     runner: Runner,
     times: usize,
-) -> Result<Outcome, Fault>
+) -> Result<Outcome, BenchFault>
 where
     R: AllocGlobal + Clock + Threads + Sync,
 {
@@ -73,7 +73,7 @@ fn accepted_in_all<R>(
     table: &Table,
     workers: usize,
     times: usize,
-) -> Result<Check, Fault>
+) -> Result<Check, BenchFault>
 where
     R: AllocGlobal + Threads + Sync,
 {
@@ -86,7 +86,7 @@ where
 }
 
 /// Whether no job fails.
-fn are_accepted<R>(rt: &R, jobs: &[Job], table: &Table, workers: usize) -> Result<bool, Fault>
+fn are_accepted<R>(rt: &R, jobs: &[Job], table: &Table, workers: usize) -> Result<bool, BenchFault>
 where
     R: AllocGlobal + Threads + Sync,
 {

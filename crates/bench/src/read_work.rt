@@ -2,8 +2,8 @@
 
 use crate::check::Check;
 use crate::clock::{Outcome, Timer};
-use crate::fault::Fault;
-use crate::plan::Work;
+use crate::fault::BenchFault;
+use crate::plan::SeatWorkload;
 use crate::seat_work::{at_once, submit};
 use node::{Naming, Node, Seat};
 use std::rt::Clock;
@@ -20,7 +20,7 @@ const ROUNDS: usize = 100;
 
 /// What a reader asks for.
 #[derive(Clone, Copy)]
-pub enum Look {
+pub enum ReadKind {
     /// `gettxout` of each coin. What they are worth is summed.
     Coin,
     /// `getbestblockhash` as often. It is counted.
@@ -35,7 +35,7 @@ fn read_coin<J: Naming, R: AllocGlobal>(
     rt: &R,
     seat: &mut Seat<'_, J>,
     at: &OutPoint,
-) -> Result<u64, Fault> {
+) -> Result<u64, BenchFault> {
     Ok(match seat.gettxout(rt.alloc(), at)?.value {
         Some(output) => output.value.unsigned_abs(),
         None => 0,
@@ -47,13 +47,13 @@ pub fn read_each<J: Naming, R: AllocGlobal>(
     rt: &R,
     seat: &mut Seat<'_, J>,
     places: &[OutPoint],
-    look: Look,
-) -> Result<u64, Fault> {
+    look: ReadKind,
+) -> Result<u64, BenchFault> {
     let mut sum = 0u64;
     for at in places {
         let one = match look {
-            Look::Coin | Look::Slowest => read_coin(rt, seat, at)?,
-            Look::Best => u64::from(seat.getbestblockhash()?.at > 0),
+            ReadKind::Coin | ReadKind::Slowest => read_coin(rt, seat, at)?,
+            ReadKind::Best => u64::from(seat.getbestblockhash()?.at > 0),
         };
         sum = sum.wrapping_add(one);
     }
@@ -65,7 +65,7 @@ fn slowest_of<J: Naming, R>(
     rt: &R,
     places: &[OutPoint],
     seats: &mut [Seat<'_, J>],
-) -> Result<Outcome, Fault>
+) -> Result<Outcome, BenchFault>
 where
     R: AllocGlobal + Clock,
 {
@@ -97,7 +97,7 @@ impl Slowest {
         rt: &R,
         places: &[OutPoint],
         seat: &mut Seat<'_, J>,
-    ) -> Result<(), Fault>
+    ) -> Result<(), BenchFault>
     where
         R: AllocGlobal + Clock,
     {
@@ -118,7 +118,7 @@ fn submit_until<J: Naming, R>(
     blocks: &[Vec<u8>],
     is_over: &AtomicBool,
     seat: &mut Seat<'_, J>,
-) -> Result<(), Fault>
+) -> Result<(), BenchFault>
 where
     R: Threads + Wait + Sync,
 {
@@ -135,27 +135,27 @@ where
 pub fn reads_beside<J: Naming, R>(
     rt: &R,
     node: &Node<'_, J>,
-    work: &Work,
+    work: &SeatWorkload,
     blocks: &[Vec<u8>],
     seats: &mut [Seat<'_, J>],
-) -> Result<Outcome, Fault>
+) -> Result<Outcome, BenchFault>
 where
     R: AllocGlobal + Clock + Threads + Wait + Sync,
 {
     match seats.split_first_mut() {
         Some((writer, readers)) => beside(rt, node, work, blocks, writer, readers),
-        None => Err(Fault::Node),
+        None => Err(BenchFault::Node),
     }
 }
 
 fn beside<J: Naming, R>(
     rt: &R,
     node: &Node<'_, J>,
-    work: &Work,
+    work: &SeatWorkload,
     blocks: &[Vec<u8>],
     writer: &mut Seat<'_, J>,
     readers: &mut [Seat<'_, J>],
-) -> Result<Outcome, Fault>
+) -> Result<Outcome, BenchFault>
 where
     R: AllocGlobal + Clock + Threads + Wait + Sync,
 {
@@ -170,15 +170,19 @@ where
 fn reads_to_end<J: Naming, R>(
     rt: &R,
     node: &Node<'_, J>,
-    work: &Work,
+    work: &SeatWorkload,
     is_over: &AtomicBool,
     seats: &mut [Seat<'_, J>],
-) -> Result<Outcome, Fault>
+) -> Result<Outcome, BenchFault>
 where
     R: AllocGlobal + Clock + Threads + Wait + Sync,
 {
     let outcome = match work {
-        Work::Beside(places, Look::Slowest, _) => slowest_of(rt, places.as_slice(), seats),
+        SeatWorkload::Beside(places, ReadKind::Slowest, _) => slowest_of(
+            rt,
+            places.as_slice(),
+            seats,
+        ),
         _ => at_once(rt, node, work, seats),
     };
     is_over.store(true, SeqCst);
@@ -186,7 +190,10 @@ where
 }
 
 /// What came of reads, where the blocks beside them were submitted.
-fn behind(written: Result<(), Fault>, outcome: Result<Outcome, Fault>) -> Result<Outcome, Fault> {
+fn behind(
+    written: Result<(), BenchFault>,
+    outcome: Result<Outcome, BenchFault>,
+) -> Result<Outcome, BenchFault> {
     written?;
     outcome
 }

@@ -1,7 +1,7 @@
 //! Scripts that are run, and how many of them accept.
 
 use crate::check::Check;
-use crate::fault::Fault;
+use crate::fault::BenchFault;
 use interp::{Job, verify};
 use signatures::Table;
 use std::alloc::Global;
@@ -12,7 +12,7 @@ pub fn accepted_in_all(
     jobs: &[Job],
     table: &Table,
     times: usize,
-) -> Result<Check, Fault> {
+) -> Result<Check, BenchFault> {
     let mut count = 0u64;
     for _ in 0..times {
         count = count.wrapping_add(accepted(alloc, jobs, table)?);
@@ -21,7 +21,7 @@ pub fn accepted_in_all(
 }
 
 /// How many jobs are accepted.
-pub fn accepted(alloc: Global, jobs: &[Job], table: &Table) -> Result<u64, Fault> {
+pub fn accepted(alloc: Global, jobs: &[Job], table: &Table) -> Result<u64, BenchFault> {
     let mut count = 0u64;
     for job in jobs {
         count = count.wrapping_add(u64::from(is_accepted(alloc, job, table)?));
@@ -29,7 +29,7 @@ pub fn accepted(alloc: Global, jobs: &[Job], table: &Table) -> Result<u64, Fault
     Ok(count)
 }
 
-fn is_accepted(alloc: Global, job: &Job, table: &Table) -> Result<bool, Fault> {
+fn is_accepted(alloc: Global, job: &Job, table: &Table) -> Result<bool, BenchFault> {
     if job.input >= job.tx.inputs.len() {
         return Ok(false);
     }

@@ -3,8 +3,8 @@
 use crate::chain_work::NOW;
 use crate::check::Check;
 use crate::clock::{Outcome, Timer};
-use crate::fault::Fault;
-use crate::plan::Work;
+use crate::fault::BenchFault;
+use crate::plan::SeatWorkload;
 use crate::read_work::read_each;
 use node::{Naming, Node, Seat, SubmitReply};
 use std::rt::Clock;
@@ -20,7 +20,7 @@ pub fn submit<J: Naming, R>(
     node: &Node<'_, J>,
     seat: &mut Seat<'_, J>,
     bytes: &[u8],
-) -> Result<u64, Fault>
+) -> Result<u64, BenchFault>
 where
     R: Threads + Wait + Sync,
 {
@@ -35,7 +35,7 @@ pub fn submit_each<J: Naming, R>(
     node: &Node<'_, J>,
     seat: &mut Seat<'_, J>,
     blocks: &[Vec<u8>],
-) -> Result<u64, Fault>
+) -> Result<u64, BenchFault>
 where
     R: Threads + Wait + Sync,
 {
@@ -52,7 +52,7 @@ pub fn in_turn<J: Naming, R>(
     node: &Node<'_, J>,
     seats: &mut [Seat<'_, J>],
     blocks: &[Vec<u8>],
-) -> Result<Outcome, Fault>
+) -> Result<Outcome, BenchFault>
 where
     R: Clock + Threads + Wait + Sync,
 {
@@ -65,7 +65,7 @@ fn submit_in_turn<J: Naming, R>(
     node: &Node<'_, J>,
     seats: &mut [Seat<'_, J>],
     blocks: &[Vec<u8>],
-) -> Result<Check, Fault>
+) -> Result<Check, BenchFault>
 where
     R: Threads + Wait + Sync,
 {
@@ -83,9 +83,9 @@ where
 pub fn at_once<J: Naming, R>(
     rt: &R,
     node: &Node<'_, J>,
-    work: &Work,
+    work: &SeatWorkload,
     seats: &mut [Seat<'_, J>],
-) -> Result<Outcome, Fault>
+) -> Result<Outcome, BenchFault>
 where
     R: AllocGlobal + Clock + Threads + Wait + Sync,
 {
@@ -99,7 +99,7 @@ where
 fn do_parts<J: Naming, R>(
     rt: &R,
     node: &Node<'_, J>,
-    work: &Work,
+    work: &SeatWorkload,
     seats: &mut [Seat<'_, J>],
     sum: &AtomicU64,
 )
@@ -114,7 +114,7 @@ where
 }
 
 /// Adds what came of a seat's part, where it came to an end.
-fn add_part(sum: &AtomicU64, part: Result<u64, Fault>) {
+fn add_part(sum: &AtomicU64, part: Result<u64, BenchFault>) {
     if let Ok(own) = part {
         sum.fetch_add(own, SeqCst);
     }
@@ -124,19 +124,19 @@ fn add_part(sum: &AtomicU64, part: Result<u64, Fault>) {
 fn part_of<J: Naming, R>(
     rt: &R,
     node: &Node<'_, J>,
-    work: &Work,
+    work: &SeatWorkload,
     place: usize,
     seats: usize,
     seat: &mut Seat<'_, J>,
-) -> Result<u64, Fault>
+) -> Result<u64, BenchFault>
 where
     R: AllocGlobal + Threads + Wait + Sync,
 {
     match work {
-        Work::Reads(places, look) | Work::Beside(places, look, _) => {
+        SeatWorkload::Reads(places, look) | SeatWorkload::Beside(places, look, _) => {
             read_each(rt, seat, places.as_slice(), *look)
         }
-        Work::Branches(branches) => {
+        SeatWorkload::Branches(branches) => {
             submit_shared(rt, node, seat, branches.as_slice(), place, seats)
         }
         _ => Ok(0),
@@ -151,7 +151,7 @@ fn submit_shared<J: Naming, R>(
     branches: &[Vec<Vec<u8>>],
     place: usize,
     seats: usize,
-) -> Result<u64, Fault>
+) -> Result<u64, BenchFault>
 where
     R: Threads + Wait + Sync,
 {

@@ -2,7 +2,7 @@
 
 use crate::check::Check;
 use crate::clock::{Outcome, Timer};
-use crate::fault::Fault;
+use crate::fault::BenchFault;
 use crate::scripts::accepted;
 use interp::{Flags, Job};
 use sighash::{Midstates, SpentScripts};
@@ -15,14 +15,14 @@ use workloads::inputs::signed_transaction::{Signed, of_inputs};
 use workloads::inputs::spends::ALL;
 
 /// This many digests of a transaction of 1,000 inputs, each of which has a push that ends as a signature of type ALL does.
-pub fn digests<R: AllocGlobal + Clock>(rt: &R, size: usize) -> Result<Outcome, Fault> {
+pub fn digests<R: AllocGlobal + Clock>(rt: &R, size: usize) -> Result<Outcome, BenchFault> {
     let tx = of_inputs(rt.alloc(), 1000, &[1, ALL])?;
     let timer = Timer::start(rt);
     timer.stop(rt, last_digest(rt.alloc(), &tx, size))
 }
 
 /// The last of so many digests of a transaction's inputs.
-fn last_digest(alloc: Global, tx: &Tx, count: usize) -> Result<Check, Fault> {
+fn last_digest(alloc: Global, tx: &Tx, count: usize) -> Result<Check, BenchFault> {
     let code = [OP_CHECKSIG; 25];
     let spent = OneScript(code.as_slice());
     let midstates = Midstates::of(alloc, tx, 0, &spent)?;
@@ -54,7 +54,7 @@ impl<'a> SpentScripts for OneScript<'a> {
 }
 
 /// How many inputs of such a transaction are accepted.
-fn accepted_in(alloc: Global, signed: &Signed, table: &Table) -> Result<Check, Fault> {
+fn accepted_in(alloc: Global, signed: &Signed, table: &Table) -> Result<Check, BenchFault> {
     let spent = OneScript(signed.spent.as_slice());
     let midstates = Midstates::of(alloc, &signed.tx, 0, &spent)?;
     accepted_by(alloc, &midstates, signed.spent.as_slice(), table)
@@ -66,7 +66,7 @@ fn accepted_by<'a>(
     midstates: &'a Midstates<'a>,
     spent: &'a [u8],
     table: &Table,
-) -> Result<Check, Fault> {
+) -> Result<Check, BenchFault> {
     let jobs = jobs(alloc, midstates, spent)?;
     Ok(Check::Count(accepted(alloc, jobs.as_slice(), table)?))
 }
@@ -76,7 +76,7 @@ fn jobs<'a>(
     alloc: Global,
     midstates: &'a Midstates<'a>,
     spent: &'a [u8],
-) -> Result<Vec<Job<'a>>, Fault> {
+) -> Result<Vec<Job<'a>>, BenchFault> {
     let mut jobs = Vec::new(alloc);
     for input in 0..midstates.tx.inputs.len() {
         put(&mut jobs, shared_job(midstates, input, spent))?;
@@ -95,7 +95,7 @@ fn shared_job<'a>(midstates: &'a Midstates<'a>, input: usize, spent: &'a [u8]) -
 }
 
 /// CHECKSIG of each input of one transaction of so many.
-pub fn each_input<R: AllocGlobal + Clock>(rt: &R, size: usize) -> Result<Outcome, Fault> {
+pub fn each_input<R: AllocGlobal + Clock>(rt: &R, size: usize) -> Result<Outcome, BenchFault> {
     let signed = Signed::new(rt.alloc(), size)?;
     let table = signed.table(rt.alloc())?;
     let timer = Timer::start(rt);

@@ -1,12 +1,12 @@
 //! The workloads by their names.
 
-use crate::chain_work::{Growth, grown};
+use crate::chain_work::{ChainGrowth, grown};
 use crate::clock::Outcome;
-use crate::fault::Fault;
+use crate::fault::BenchFault;
 use crate::node_work::at_node;
 use crate::plan::Plan;
 use crate::queues::{Runner, checked};
-use crate::read_work::Look;
+use crate::read_work::ReadKind;
 use crate::{codec, coin_work, connections, early_work, hashes, plan, signed_inputs};
 use std::alloc::Global;
 use std::rt::Clock;
@@ -139,7 +139,7 @@ impl Workload {
         None
     }
 
-    pub fn run<R>(self, rt: &R, size: usize) -> Result<Outcome, Fault>
+    pub fn run<R>(self, rt: &R, size: usize) -> Result<Outcome, BenchFault>
     where
         R: AllocGlobal + Clock + Threads + Wait + Sync,
     {
@@ -158,7 +158,7 @@ impl Workload {
     }
 
     /// Workloads of scripts and digests, or of what is above them.
-    fn run_scripts<R>(self, rt: &R, size: usize) -> Result<Outcome, Fault>
+    fn run_scripts<R>(self, rt: &R, size: usize) -> Result<Outcome, BenchFault>
     where
         R: AllocGlobal + Clock + Threads + Wait + Sync,
     {
@@ -181,7 +181,7 @@ impl Workload {
     }
 
     /// Workloads of coins, or of what is above them.
-    fn run_coins<R>(self, rt: &R, size: usize) -> Result<Outcome, Fault>
+    fn run_coins<R>(self, rt: &R, size: usize) -> Result<Outcome, BenchFault>
     where
         R: AllocGlobal + Clock + Threads + Wait + Sync,
     {
@@ -201,22 +201,22 @@ impl Workload {
     }
 
     /// What is submitted to a chainstate.
-    fn growth(self, size: usize) -> Option<Growth> {
+    fn growth(self, size: usize) -> Option<ChainGrowth> {
         match self {
-            Workload::Chain => Some(Growth::Above(Branch::new(1), 0, size)),
-            Workload::ChainHeavy => Some(Growth::Above(Branch::heavy(1), 0, size)),
-            Workload::ChainBeside => Some(Growth::Beside(size)),
-            Workload::BlocksAbove => Some(Growth::hundred_above(size)),
-            Workload::Reorganise => Some(Growth::Reorganised(size)),
+            Workload::Chain => Some(ChainGrowth::Above(Branch::new(1), 0, size)),
+            Workload::ChainHeavy => Some(ChainGrowth::Above(Branch::heavy(1), 0, size)),
+            Workload::ChainBeside => Some(ChainGrowth::Beside(size)),
+            Workload::BlocksAbove => Some(ChainGrowth::hundred_above(size)),
+            Workload::Reorganise => Some(ChainGrowth::Reorganised(size)),
             _ => None,
         }
     }
 
     /// What a node's seats do.
-    fn plan(self, alloc: Global, size: usize) -> Result<Plan, inputs::Fault> {
+    fn plan(self, alloc: Global, size: usize) -> Result<Plan, inputs::InputsFault> {
         match self {
-            Workload::ReadCoin(readers) => plan::reads(alloc, size, readers, Look::Coin),
-            Workload::ReadBest(readers) => plan::reads(alloc, size, readers, Look::Best),
+            Workload::ReadCoin(readers) => plan::reads(alloc, size, readers, ReadKind::Coin),
+            Workload::ReadBest(readers) => plan::reads(alloc, size, readers, ReadKind::Best),
             Workload::ReadBeside(readers) => plan::reads_beside(alloc, size, readers),
             Workload::Slowest => plan::slowest(alloc, size),
             Workload::Publish(payments) => plan::published(alloc, size, payments),

@@ -90,7 +90,7 @@ fn next_record<R: Source>(
     ensures failed { CountsFailures result (R.failed source.old) (R.failed source.new) }
 {
     let mut front = [0; HEAD];
-    let count = fill(source, &mut front, 0)?;
+    let count = fill(source, &mut front)?;
     let front = &front[..count];
     let Some(len) = block_len(front, place)? else {
         end(source, front, place)?;

@@ -78,7 +78,7 @@ fn txs(alloc: Global, bytes: &mut Cursor) -> Result<Txs, TxFault>
     each_tx(alloc, bytes, count, empty)
 }
 
-/// So many transactions, read into an empty list with room for no more than the bytes can spell.
+/// Reads this many transactions into an empty list, with room for no more than the bytes can spell.
 fn each_tx(alloc: Global, bytes: &mut Cursor, count: u64, empty: Vec<Tx>) -> Result<Txs, TxFault>
     requires empty { empty.items ≡ [] }
     requires room { vec_capacity empty ≡ min count (length bytes.old / least_transaction) }

@@ -13,15 +13,10 @@ use std::alloc::Global;
 /// How many bytes of a block are read at once.
 const PIECE: usize = 65_536;
 
-/// Fills the buffer from a place on, or puts all that is to come there. Returns the place up to which bytes came.
-pub(crate) fn fill<R: Source>(
-    source: &mut R,
-    buffer: &mut [u8],
-    from: usize,
-) -> Result<usize, ReadFailed>
-    requires { from ≤ length buffer.old }
-    ensures room { IfOk result (λ end. (from ≤ end) × (end ≤ length buffer.new)) }
-    ensures came { IfOk result (λ end. take from buffer.old ++ R.to_come source.old
+/// Fills the buffer, or puts all that is to come there. Returns how many bytes came.
+pub(crate) fn fill<R: Source>(source: &mut R, buffer: &mut [u8]) -> Result<usize, ReadFailed>
+    ensures room { IfOk result (λ end. end ≤ length buffer.new) }
+    ensures came { IfOk result (λ end. R.to_come source.old
         ≡ take end buffer.new ++ R.to_come source.new) }
     ensures end { IfOk result (λ end. end < length buffer.new → R.to_come source.new ≡ []) }
     ensures remain { Remain (R.to_come source.old) (R.to_come source.new) }
@@ -29,7 +24,7 @@ pub(crate) fn fill<R: Source>(
         ≡ (if is_ok result then R.failed source.old else R.failed source.old + 1) }
     ensures len { length buffer.new ≡ length buffer.old }
 {
-    let mut at = from;
+    let mut at = 0;
     while at < buffer.len() {
         let count = source.read(&mut buffer[at..])?;
         if count == 0 {
@@ -82,32 +77,11 @@ pub(crate) fn take<R: Source>(
         let left = len - bytes.len();
         let want = left.min(PIECE);
         make_room(&mut bytes, want)?;
-        if !append(source, &mut bytes, want)? {
+        if !source.append(&mut bytes, want)? {
             return Ok(bytes);
         }
     }
     Ok(bytes)
-}
-
-/// Puts the next `want` bytes behind those that are there, or all that are to come where those are fewer. Returns
-/// whether they all came.
-fn append<R: Source>(source: &mut R, bytes: &mut Vec<u8>, want: usize) -> Result<bool, BlkFault>
-    requires { length bytes.old.items + want < 2 ^ 64 }
-    ensures within { IfOk result (λ all. length bytes.new.items ≤ length bytes.old.items + want) }
-    ensures all { IfOk result (λ all. MatchBool all
-        (length bytes.new.items ≡ length bytes.old.items + want) (R.to_come source.new ≡ [])) }
-    ensures came { IfOk result (λ all. bytes.old.items ++ R.to_come source.old
-        ≡ bytes.new.items ++ R.to_come source.new) }
-    ensures remain { Remain (R.to_come source.old) (R.to_come source.new) }
-    ensures fault { IfErr result (λ e. (e ≡ Read) ⊎ (e ≡ Memory)) }
-    ensures failed { CountsFailures result (R.failed source.old) (R.failed source.new) }
-{
-    let at = bytes.len();
-    let whole = at + want;
-    bytes.resize(whole, 0)?;
-    let end = fill(source, bytes.as_mut_slice(), at)?;
-    bytes.truncate(end);
-    Ok(end == whole)
 }
 
 /// Makes room for `want` bytes more, and for no byte beyond them. A piece at a time costs little: the allocator

@@ -1,7 +1,10 @@
 //! Where the bytes of a blk file come from.
 
-ghost use Rattle.std.specs.Prelude.{◌≡◌, ℕ, ◌+◌, ◌<◌, ◌≤◌, ◌^◌, List, [], ◌++◌, length, take, IfOk, OnErr, is_ok, if◌then◌else◌};
+ghost use Rattle.std.specs.Prelude.{◌≡◌, ◌⊎◌, ℕ, ◌+◌, ◌<◌, ◌≤◌, ◌^◌, List, [], ◌++◌, length, take, IfOk, IfErr, OnErr, is_ok, if◌then◌else◌, MatchBool};
+ghost use Rattle.block.specs.declared.blk_fault.BlkFault.TheVariants.{Read, Memory};
+ghost use Rattle.block.specs.Blk.{Remain, CountsFailures};
 
+use crate::blk_fault::BlkFault;
 use std::error::Error;
 use std::fmt;
 
@@ -40,6 +43,20 @@ pub trait Source {
         // The buffer stays as long.
         ensures len { length buffer.new ≡ length buffer.old };
 
+    /// Puts the next `want` bytes behind those that are there, or all that are to come where those are fewer. Returns
+    /// whether they all came.
+    fn append(&mut self, bytes: &mut Vec<u8>, want: usize) -> Result<bool, BlkFault>
+        requires { length bytes.old.items + want < 2 ^ 64 }
+        ensures within { IfOk result (λ all.
+            length bytes.new.items ≤ length bytes.old.items + want) }
+        ensures all { IfOk result (λ all. MatchBool all
+            (length bytes.new.items ≡ length bytes.old.items + want) (to_come self.new ≡ [])) }
+        ensures came { IfOk result (λ all. bytes.old.items ++ to_come self.old
+            ≡ bytes.new.items ++ to_come self.new) }
+        ensures remain { Remain (to_come self.old) (to_come self.new) }
+        ensures fault { IfErr result (λ e. (e ≡ Read) ⊎ (e ≡ Memory)) }
+        ensures failed { CountsFailures result (failed self.old) (failed self.new) };
+
     /// A number of 64 bits counts them.
     ghost countable: { (source : Self) → length (to_come source) < 2 ^ 64 };
 }
@@ -72,6 +89,15 @@ impl<'a> Source for SliceSource<'a> {
         buffer[..count].copy_from_slice(front);
         self.rest = rest;
         Ok(count)
+    }
+
+    /// The bytes are at hand: no room for them has to be filled first.
+    fn append(&mut self, bytes: &mut Vec<u8>, want: usize) -> Result<bool, BlkFault> {
+        let count = self.rest.len().min(want);
+        let (front, rest) = self.rest.split_at(count);
+        bytes.extend_from_slice(front)?;
+        self.rest = rest;
+        Ok(count == want)
     }
 
     ghost countable = { λ source. source.countable };

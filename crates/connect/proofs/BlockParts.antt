@@ -6,7 +6,7 @@ use Rattle.txn.specs.declared.tx.Tx.{Tx}
 use Rattle.txn.specs.First.{first_broken}
 use Rattle.coins.specs.declared.coin.Coin.{Coin}
 use Rattle.coins.specs.Coins.{Coins, Layer}
-use Rattle.connect.specs.declared.stop.Stop.{Stop}
+use Rattle.connect.specs.declared.block_fault.BlockFault.{BlockFault}
 use Rattle.connect.specs.BlockContext.{Setting}
 use Rattle.connect.specs.Turns.{Turn, turn, turns, effect, spent_in, undo_of, left_by}
 use Rattle.connect.specs.Faults.{overwrites, turn_rules, connect_rules}
@@ -42,7 +42,7 @@ pub none_overwrites : (b : Coins) (xs : List Tx) (x : Tx) → xs ≡ x ∷ other
 none_overwrites b xs x parts new = neither (overwrites b x) (list_any (overwrites b) (others xs)) (sym (ap (list_any (overwrites b)) parts) ∙ new)
 
 -- the coinbase breaks a rule
-pub at_coinbase : (s : Setting) (m : Coins) (xs : List Tx) (x : Tx) (why : Stop) → Parted s m xs x → list_any (overwrites m) xs ≡ false
+pub at_coinbase : (s : Setting) (m : Coins) (xs : List Tx) (x : Tx) (why : BlockFault) → Parted s m xs x → list_any (overwrites m) xs ≡ false
     → IsReason (first_broken (turn_rules s (turn x m 0))) why → IsReason (first_broken (connect_rules s m xs)) why
 at_coinbase s m xs x why p new broken =
     at_turn s m xs why new (subst (λ l. IsReason (first_broken l) why) (sym p.each) (still_first (turn_rules s (turn x m 0)) (flat_map (turn_rules s) (later_turns s m x (others xs))) why broken))

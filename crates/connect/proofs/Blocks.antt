@@ -9,8 +9,8 @@ use Rattle.txn.specs.First.{Rules, first_broken}
 use Rattle.txn.specs.laws.First.{first_of_both}
 use Rattle.block.specs.Reward.{subsidy_of}
 use Rattle.coins.specs.Coins.{Coins}
-use Rattle.connect.specs.declared.stop.Stop.{Stop}
-use Rattle.connect.specs.declared.stop.Stop.TheVariants.{Broken, Memory}
+use Rattle.connect.specs.declared.block_fault.BlockFault.{BlockFault}
+use Rattle.connect.specs.declared.block_fault.BlockFault.TheVariants.{Broken, Memory}
 use Rattle.connect.specs.BlockContext.{Setting}
 use Rattle.connect.specs.Turns.{Turn, turn, turns, spent_in, undo_of, left_by, full_count}
 use Rattle.connect.specs.Faults.{overwrites, fees, reward_of, turn_rules, connect_rules}
@@ -23,7 +23,7 @@ pub past : (xs ys : Rules) → first_broken xs ≡ None → first_broken (xs ++ 
 past xs ys h = first_of_both xs ys ∙ ap (λ o. option_or o (first_broken ys)) h
 
 -- what ends with the first of some rules ends with it among more
-pub still_first : (xs ys : Rules) (why : Stop) → IsReason (first_broken xs) why → IsReason (first_broken (xs ++ ys)) why
+pub still_first : (xs ys : Rules) (why : BlockFault) → IsReason (first_broken xs) why → IsReason (first_broken (xs ++ ys)) why
 still_first xs ys (Broken reason) h = first_of_both xs ys ∙ ap (λ o. option_or o (first_broken ys)) h
 still_first xs ys Memory h = tt
 
@@ -46,7 +46,7 @@ module _ (s : Setting) (m : Coins) (txs : List Tx) where
   unfolding connect_rules
   at_clash e = stop clash OverwritesCoin (each ++ last) e
 
-  pub at_turn : (why : Stop) → list_any (overwrites m) txs ≡ false → IsReason (first_broken (flat_map (turn_rules s) (turns s.height m 0 txs))) why → IsReason (first_broken (connect_rules s m txs)) why
+  pub at_turn : (why : BlockFault) → list_any (overwrites m) txs ≡ false → IsReason (first_broken (flat_map (turn_rules s) (turns s.height m 0 txs))) why → IsReason (first_broken (connect_rules s m txs)) why
   unfolding connect_rules
   at_turn why e h = subst (λ o. IsReason o why) (sym (skip clash OverwritesCoin (each ++ last) e)) (still_first each last why h)
 

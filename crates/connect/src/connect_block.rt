@@ -19,11 +19,11 @@ ghost use Rattle.signatures.specs.Known.{Under};
 ghost use Rattle.connect.specs.declared.lookups.Lookup.TheVariants.{Above};
 
 use crate::amounts::paid;
+use crate::block_fault::BlockFault;
 use crate::context::{BlockWithIds, Context};
 use crate::lookups::{Lookup, overwrites};
 use crate::runs_scripts::RunsScripts;
 use crate::scripts::first_refused;
-use crate::stop::Stop;
 use crate::turn::{Place, connect_tx};
 use block::subsidy;
 use coins::{Base, Cache, Writes};
@@ -183,8 +183,8 @@ pub fn apply_in_layer<'b, B: Base, S: RunsScripts>(
     let lookup = lookup_in(&layer);
     let place = Place { context, lookup };
     match connect_txs(alloc, layer, &place, of.block.txs.as_slice(), of.ids) {
-        Err(Stop::Broken(reason)) => Ok(Err(reason)),
-        Err(Stop::Memory) => Err(S::Stop::from(Memory)),
+        Err(BlockFault::Broken(reason)) => Ok(Err(reason)),
+        Err(BlockFault::Memory) => Err(S::Stop::from(Memory)),
         Ok((layer, undo)) => {
             let others = &of.block.txs.as_slice()[1..];
             let rules = context.params.at(context.height);
@@ -224,7 +224,7 @@ fn connect_txs<'b, B: Base>(
     place: &Place<'_>,
     txs: &[Tx],
     ids: &[Id],
-) -> Result<(Cache<'b, B>, BlockUndo), Stop>
+) -> Result<(Cache<'b, B>, BlockUndo), BlockFault>
     requires fresh { place.now.lookup ≡ Above → layer.coins ≡ layer.base }
     requires some { 1 ≤ length txs.now }
     requires few { length txs.now ≤ 1000000 }
@@ -236,7 +236,7 @@ fn connect_txs<'b, B: Base>(
         PassTogether (setting place.now.context.now) layer.entry txs.now done.0 done.1) }
 {
     if is_overwriting(&layer, txs, ids) {
-        return Err(Stop::Broken(Reason::OverwritesCoin));
+        return Err(BlockFault::Broken(Reason::OverwritesCoin));
     }
     let coinbase = connect_tx(alloc, layer, place, &txs[0], ids[0], 0)?;
     let others = connect_others(
@@ -248,7 +248,7 @@ fn connect_txs<'b, B: Base>(
         coinbase.passed.counted,
     )?;
     if is_overpaid(place.context.height, others.fees, txs[0].outputs.as_slice()) {
-        return Err(Stop::Broken(Reason::CoinbaseAmount));
+        return Err(BlockFault::Broken(Reason::CoinbaseAmount));
     }
     Ok((others.layer, others.undo))
 }
@@ -284,7 +284,7 @@ fn connect_others<'b, B: Base>(
     txs: &[Tx],
     ids: &[Id],
     counted: u128,
-) -> Result<Others<'b, B>, Stop>
+) -> Result<Others<'b, B>, BlockFault>
     requires few { length txs.now ≤ 1000000 }
     requires lawful { AllByRecursion IsLawful txs.now }
     requires ids { ids.now ≡ ids_of txs.now }

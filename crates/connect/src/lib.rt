@@ -2,6 +2,7 @@
 #![tactic(auto)]
 
 mod amounts;
+mod block_fault;
 mod connect_block;
 mod context;
 mod counts;
@@ -12,7 +13,6 @@ pub mod laws;
 mod lookups;
 mod runs_scripts;
 mod scripts;
-mod stop;
 mod turn;
 
 pub use connect_block::{Applied, apply_in_layer, connect, connect_in_layer};

@@ -17,10 +17,10 @@ ghost use Rattle.connect.specs.laws.Broken.{UpToAmount, UpToCount};
 ghost use Rattle.connect.specs.declared.lookups.Lookup.TheVariants.{Above};
 
 use crate::amounts::{paid, worth};
+use crate::block_fault::BlockFault;
 use crate::context::Context;
 use crate::counts::inner_sigops;
 use crate::lookups::{Lookup, overwrites_in_turn};
-use crate::stop::Stop;
 use coins::{Base, Cache, Coin};
 use hash::Id;
 use locks::{LockStart, relative_ok};
@@ -30,7 +30,7 @@ use txn::{Reason, Tx};
 use undo::{Spent, add_outputs, take_inputs};
 use wire::Memory;
 
-/// So many blocks above a coinbase its coins may be spent (Bitcoin Core's `COINBASE_MATURITY`).
+/// How many blocks above a coinbase its coins may be spent (Bitcoin Core's `COINBASE_MATURITY`).
 pub const COINBASE_MATURITY: u32 = 100;
 
 /// What a transaction gives in its turn.
@@ -74,7 +74,7 @@ pub(crate) fn connect_tx<'b, B: Base>(
     tx: &Tx,
     id: Id,
     counted: u128,
-) -> Result<Turned<'b, B>, Stop>
+) -> Result<Turned<'b, B>, BlockFault>
     requires lawful { IsLawful tx.now }
     requires id { id ≡ id_of tx.now }
     requires counted { counted ≤ max_block_sigops }
@@ -97,11 +97,11 @@ pub(crate) fn connect_tx<'b, B: Base>(
     let coins = spent.as_slice();
     let fee = match test_amount(coins, context, tx) {
         Ok(fee) => fee,
-        Err(reason) => return Err(Stop::Broken(reason)),
+        Err(reason) => return Err(BlockFault::Broken(reason)),
     };
     let counted = test_locks(alloc, coins, context, tx, plain)?;
     if overwriting {
-        return Err(Stop::Broken(Reason::OverwritesCoin));
+        return Err(BlockFault::Broken(Reason::OverwritesCoin));
     }
     let layer = add_outputs(layer, tx, id, context.height)?;
     let passed = Passed { fee, counted };
@@ -119,7 +119,7 @@ fn take_coins<'b, B: Base>(
     layer: Cache<'b, B>,
     tx: &Tx,
     counted: u128,
-) -> Result<Taken<'b, B>, Stop>
+) -> Result<Taken<'b, B>, BlockFault>
     requires once { IsDistinct same (spends tx.now) }
     requires few { counted ≤ max_block_sigops }
     ensures fault { (s : Setting) → IfErr result (IsReason (first_broken
@@ -135,10 +135,10 @@ fn take_coins<'b, B: Base>(
 {
     let plain = counted.saturating_add(tx_sigops(tx));
     if plain > u128::from(MAX_BLOCK_SIGOPS) {
-        return Err(Stop::Broken(Reason::TooManySigops));
+        return Err(BlockFault::Broken(Reason::TooManySigops));
     }
     let Some((layer, spent)) = take_inputs(alloc, layer, tx)? else {
-        return Err(Stop::Broken(Reason::InputsMissingOrSpent));
+        return Err(BlockFault::Broken(Reason::InputsMissingOrSpent));
     };
     Ok(Taken {
         layer,
@@ -182,7 +182,7 @@ fn test_locks(
     context: &Context,
     tx: &Tx,
     plain: u128,
-) -> Result<u128, Stop>
+) -> Result<u128, BlockFault>
     requires each { length coins.now ≡ length (spends tx.now) }
     requires inputs { length coins.now ≤ length tx.now.inputs }
     requires few { plain ≤ max_block_sigops }
@@ -202,11 +202,11 @@ fn test_locks(
     ensures bounded { IfOk result (λ all. all ≤ max_block_sigops) }
 {
     if is_locked(alloc, tx, coins, context)? {
-        return Err(Stop::Broken(Reason::NonFinal));
+        return Err(BlockFault::Broken(Reason::NonFinal));
     }
     let counted = plain.saturating_add(inner_sigops(coins, tx));
     if counted > u128::from(MAX_BLOCK_SIGOPS) {
-        return Err(Stop::Broken(Reason::TooManySigops));
+        return Err(BlockFault::Broken(Reason::TooManySigops));
     }
     Ok(counted)
 }

@@ -1,6 +1,6 @@
 //! The replay of a journal.
 
-use crate::fault::Fault;
+use crate::fault::RunFault;
 use crate::options::AuditOptions;
 use crate::progress::Progress;
 use crate::replay::{Replay, read_replay};
@@ -24,7 +24,7 @@ pub fn audit<'w, R, E>(
     rt: &R,
     options: &AuditOptions<'w>,
     err: &mut E,
-) -> Result<Audited, Fault<'w>>
+) -> Result<Audited, RunFault<'w>>
 where
     R: Files<File = File> + AllocGlobal + Clock,
     E: Write + IsTerminal,
@@ -49,7 +49,7 @@ fn refuted<'w, R, E>(
     options: &AuditOptions<'w>,
     replay: &Replay,
     err: &mut E,
-) -> Result<Option<Refuted>, Fault<'w>>
+) -> Result<Option<Refuted>, RunFault<'w>>
 where
     R: AllocGlobal + Clock,
     E: Write + IsTerminal,

@@ -6,14 +6,14 @@
 mod host;
 mod lines;
 
-use crate::fault::Fault;
+use crate::fault::RunFault;
 use crate::files::{read_table, read_table_file};
 use crate::options::{HEIGHTS as DEFAULT_HEIGHTS, ServeOptions};
 use crate::replay::read_heights_line;
 use crate::saves::heights_line;
 pub use host::{FileHost, HostFault};
 use journal::read_heights;
-pub use lines::{Unpacked, Verdict, entry_line, read_lines, table_of, triple_lines};
+pub use lines::{JudgedSignature, Unpacked, entry_line, read_lines, table_of, triple_lines};
 use rules::Params;
 use signatures::Table;
 use std::fs::{File, OpenOptions, TryLockError};
@@ -33,7 +33,7 @@ const LOCK: &str = "lock";
 
 /// Under which heights and table a history is played.
 #[derive(Drop)]
-pub struct Setting {
+pub struct PlaySetting {
     pub params: Params,
     /// None where signatures are known by need.
     pub table: Option<Table>,
@@ -42,7 +42,7 @@ pub struct Setting {
 /// What a folder says, and its log.
 #[derive(Drop)]
 pub struct Datadir {
-    pub setting: Setting,
+    pub setting: PlaySetting,
     pub log: File,
     /// What the log holds, all of it on the disk.
     pub bytes: Vec<u8>,
@@ -54,7 +54,7 @@ pub fn open_datadir<'w, R>(
     rt: &R,
     folder: &'w str,
     options: &ServeOptions<'w>,
-) -> Result<Datadir, Fault<'w>>
+) -> Result<Datadir, RunFault<'w>>
 where
     R: Files<File = File> + AllocGlobal,
 {
@@ -92,7 +92,7 @@ fn sync_folder<R: Files<File = File>>(rt: &R, folder: &str) -> io::Result<()> {
 }
 
 /// Locks a folder for one node.
-pub fn lock_for_node<'w, R>(rt: &R, folder: &'w str) -> Result<File, Fault<'w>>
+pub fn lock_for_node<'w, R>(rt: &R, folder: &'w str) -> Result<File, RunFault<'w>>
 where
     R: Files<File = File> + AllocGlobal,
 {
@@ -117,20 +117,28 @@ where
 }
 
 /// Makes the files that say under which table and heights the history is played.
-fn make_files<'w, R>(rt: &R, folder: &'w str, options: &ServeOptions<'w>) -> Result<(), Fault<'w>>
+fn make_files<'w, R>(
+    rt: &R,
+    folder: &'w str,
+    options: &ServeOptions<'w>,
+) -> Result<(), RunFault<'w>>
 where
     R: Files<File = File> + AllocGlobal,
 {
     let alloc = rt.alloc();
     let heights = options.heights.unwrap_or(DEFAULT_HEIGHTS);
-    let params = read_heights(heights).ok_or(Fault::Heights)?;
+    let params = read_heights(heights).ok_or(RunFault::Heights)?;
     make_table(rt, folder, options)?;
     let heights = heights_line(alloc, &params)?;
     make_file(rt, folder, HEIGHTS, heights.as_bytes())
 }
 
 /// Makes the table's file; of a node by need none.
-fn make_table<'w, R>(rt: &R, folder: &'w str, options: &ServeOptions<'w>) -> Result<(), Fault<'w>>
+fn make_table<'w, R>(
+    rt: &R,
+    folder: &'w str,
+    options: &ServeOptions<'w>,
+) -> Result<(), RunFault<'w>>
 where
     R: Files<File = File> + AllocGlobal,
 {
@@ -148,7 +156,7 @@ fn make_file<'w, R>(
     folder: &'w str,
     name: &'static str,
     bytes: &[u8],
-) -> Result<(), Fault<'w>>
+) -> Result<(), RunFault<'w>>
 where
     R: Files<File = File> + AllocGlobal,
 {
@@ -192,19 +200,19 @@ fn open_log<R: Files<File = File>>(rt: &R, path: &str, bytes: &mut Vec<u8>) -> i
 }
 
 /// The heights and the table of a folder.
-pub fn read_setting<'w, R>(rt: &R, folder: &'w str) -> Result<Setting, Fault<'w>>
+pub fn read_setting<'w, R>(rt: &R, folder: &'w str) -> Result<PlaySetting, RunFault<'w>>
 where
     R: Files<File = File> + AllocGlobal,
 {
     let heights = read_bytes(rt, folder, HEIGHTS)?;
-    Ok(Setting {
-        params: read_heights_line(heights.as_slice()).ok_or(Fault::Heights)?,
+    Ok(PlaySetting {
+        params: read_heights_line(heights.as_slice()).ok_or(RunFault::Heights)?,
         table: read_table_there(rt, folder)?,
     })
 }
 
 /// The table of a folder, where it has one.
-fn read_table_there<'w, R>(rt: &R, folder: &'w str) -> Result<Option<Table>, Fault<'w>>
+fn read_table_there<'w, R>(rt: &R, folder: &'w str) -> Result<Option<Table>, RunFault<'w>>
 where
     R: Files<File = File> + AllocGlobal,
 {
@@ -221,14 +229,14 @@ fn check_setting<'w, R>(
     rt: &R,
     folder: &'w str,
     options: &ServeOptions<'w>,
-    setting: &Setting,
-) -> Result<(), Fault<'w>>
+    setting: &PlaySetting,
+) -> Result<(), RunFault<'w>>
 where
     R: Files<File = File> + AllocGlobal,
 {
     let alloc = rt.alloc();
     if let Some(heights) = options.heights {
-        let given = read_heights(heights).ok_or(Fault::Heights)?;
+        let given = read_heights(heights).ok_or(RunFault::Heights)?;
         if heights_line(alloc, &given)? != heights_line(alloc, &setting.params)? {
             return Err(other("the folder was made with other heights", folder, HEIGHTS));
         }
@@ -246,7 +254,7 @@ fn check_table<'w, R>(
     folder: &'w str,
     options: &ServeOptions<'w>,
     table: &Table,
-) -> Result<(), Fault<'w>>
+) -> Result<(), RunFault<'w>>
 where
     R: Files<File = File> + AllocGlobal,
 {
@@ -259,12 +267,16 @@ where
     Ok(())
 }
 
-fn other<'w>(text: &'static str, folder: &'w str, name: &'static str) -> Fault<'w> {
+fn other<'w>(text: &'static str, folder: &'w str, name: &'static str) -> RunFault<'w> {
     unread(Error::new(ErrorKind::InvalidInput, text), folder, name)
 }
 
 /// The bytes of a file of a folder.
-pub fn read_bytes<'w, R>(rt: &R, folder: &'w str, name: &'static str) -> Result<Vec<u8>, Fault<'w>>
+pub fn read_bytes<'w, R>(
+    rt: &R,
+    folder: &'w str,
+    name: &'static str,
+) -> Result<Vec<u8>, RunFault<'w>>
 where
     R: Files<File = File> + AllocGlobal,
 {
@@ -272,16 +284,16 @@ where
     fs::read(rt, path.as_str()).map_err(|error| unread(error, folder, name))
 }
 
-fn unread<'w>(error: Error, folder: &'w str, name: &'static str) -> Fault<'w> {
+fn unread<'w>(error: Error, folder: &'w str, name: &'static str) -> RunFault<'w> {
     match error.kind() {
-        ErrorKind::OutOfMemory => Fault::Memory,
-        _ => Fault::CannotOpen(folder, name, error),
+        ErrorKind::OutOfMemory => RunFault::Memory,
+        _ => RunFault::CannotOpen(folder, name, error),
     }
 }
 
-fn unmade<'w>(error: Error, folder: &'w str, name: &'static str) -> Fault<'w> {
+fn unmade<'w>(error: Error, folder: &'w str, name: &'static str) -> RunFault<'w> {
     match error.kind() {
-        ErrorKind::OutOfMemory => Fault::Memory,
-        _ => Fault::CannotSave(folder, name, error),
+        ErrorKind::OutOfMemory => RunFault::Memory,
+        _ => RunFault::CannotSave(folder, name, error),
     }
 }

@@ -1,9 +1,9 @@
 //! What a node's log says, saved as a run's files.
 
 use crate::datadir::triple_lines;
-use crate::fault::Fault;
+use crate::fault::RunFault;
 use crate::options::{ExportOptions, Saved};
-use crate::replay::{Inputs, read_inputs};
+use crate::replay::{SavedRun, read_inputs};
 use crate::saves::{SavedFiles, heights_line, save_files, save_invalid};
 use journal::{Asked, Step, read_journal};
 use std::alloc::Global;
@@ -11,11 +11,11 @@ use std::fs::File;
 use std::rt::Files;
 
 /// Saves what the log of a node says: verdicts in files of their own, as a node by need saves them.
-pub fn export<'w, R>(rt: &R, options: &ExportOptions<'w>) -> Result<(), Fault<'w>>
+pub fn export<'w, R>(rt: &R, options: &ExportOptions<'w>) -> Result<(), RunFault<'w>>
 where
     R: Files<File = File> + AllocGlobal,
 {
-    let Inputs {
+    let SavedRun {
         params,
         journal,
         blk,
@@ -34,7 +34,7 @@ where
 }
 
 /// The lines of a journal without its verdicts, numbered anew.
-fn without_verdicts(alloc: Global, journal: &[u8]) -> Result<Vec<u8>, Fault<'static>> {
+fn without_verdicts(alloc: Global, journal: &[u8]) -> Result<Vec<u8>, RunFault<'static>> {
     let mut lines = String::new(alloc);
     let mut number = 0usize;
     for step in read_journal(alloc, journal)? {

@@ -1,6 +1,6 @@
 //! What a scenario defines, to be handed to another program.
 
-use crate::fault::Fault;
+use crate::fault::RunFault;
 use crate::files::{print, read_scenario};
 use crate::options::ShowOptions;
 use crate::text::read_definitions;
@@ -17,7 +17,7 @@ pub fn show<'w, R, I, O>(
     options: &ShowOptions<'w>,
     input: &mut I,
     out: &mut O,
-) -> Result<(), Fault<'w>>
+) -> Result<(), RunFault<'w>>
 where
     R: Files + AllocGlobal,
     I: Read,
@@ -40,7 +40,7 @@ fn show_all<O: Write>(
     alloc: Global,
     definitions: &Definitions,
     out: &mut O,
-) -> Result<(), Fault<'static>> {
+) -> Result<(), RunFault<'static>> {
     for name in definitions.names() {
         if let Some(line) = line(alloc, definitions, name.as_str())? {
             print(out, line.as_str())?;
@@ -55,10 +55,10 @@ fn show_name<'w, O: Write>(
     definitions: &Definitions,
     name: &'w str,
     out: &mut O,
-) -> Result<(), Fault<'w>> {
+) -> Result<(), RunFault<'w>> {
     match line(alloc, definitions, name)? {
         Some(line) => print(out, line.as_str()),
-        None => Err(Fault::NoName(name)),
+        None => Err(RunFault::NoName(name)),
     }
 }
 

@@ -16,7 +16,7 @@ const MAX_ERROR: usize = 512;
 
 /// Why a run ends without its whole output. Its `Display` is the line that users read, and a second one that says why.
 #[derive(Drop)]
-pub enum Fault<'w> {
+pub enum RunFault<'w> {
     /// The command line isn't one of ours: `clap`'s text.
     CommandLine(clap::Error),
     /// This line of the scenario, counted from 1, can't be read.
@@ -34,7 +34,7 @@ pub enum Fault<'w> {
     /// This line of a log, counted from 1, is no step behind those before it.
     NoStep(usize),
     /// The blk file isn't read on from this offset.
-    BlkStopped(u64, Stop),
+    BlkStopped(u64, BlkStop),
     /// The blk file has too few records, or too many.
     BlkRecords,
     /// This file can't be read; `-` is the standard input.
@@ -65,7 +65,7 @@ pub enum Fault<'w> {
 
 /// Why a blk file isn't read on.
 #[derive(Clone, Copy)]
-pub enum Stop {
+pub enum BlkStop {
     /// There is neither a record nor a rest of zero bytes.
     Foreign,
     /// A record ends early.
@@ -104,101 +104,101 @@ fn write_line<W: fmt::Write>(
     }
 }
 
-impl fmt::Display for Fault<'_> {
+impl fmt::Display for RunFault<'_> {
     fn fmt<W: fmt::Write>(&self, f: &mut fmt::Formatter<W>) -> fmt::Result {
         match self {
-            Fault::CommandLine(error) => return error.fmt(f),
-            Fault::Differs(difference) => return difference.fmt(f),
+            RunFault::CommandLine(error) => return error.fmt(f),
+            RunFault::Differs(difference) => return difference.fmt(f),
             _ => {}
         }
-        let line = Line(self);
+        let line = FaultLine(self);
         writeln!(f, "regchain: {line}")?;
         if self.has_reason() {
-            writeln!(f, "{line}: {}", Reason(self))?;
+            writeln!(f, "{line}: {}", FaultReason(self))?;
         }
         Ok(())
     }
 }
 
-impl Fault<'_> {
+impl RunFault<'_> {
     /// Whether there is more to say than its line does.
     pub fn has_reason(&self) -> bool {
         !matches!(
             self,
-            Fault::CommandLine(_)
-                | Fault::NoName(_)
-                | Fault::Differs(_)
-                | Fault::NoThread
-                | Fault::Memory
-                | Fault::Closed
+            RunFault::CommandLine(_)
+                | RunFault::NoName(_)
+                | RunFault::Differs(_)
+                | RunFault::NoThread
+                | RunFault::Memory
+                | RunFault::Closed
         )
     }
 }
 
 /// A fault's line, without the program's name.
 #[derive(Clone, Copy)]
-pub struct Line<'f, 'w>(pub &'f Fault<'w>);
+pub struct FaultLine<'f, 'w>(pub &'f RunFault<'w>);
 
-impl fmt::Display for Line<'_, '_> {
+impl fmt::Display for FaultLine<'_, '_> {
     fn fmt<W: fmt::Write>(&self, f: &mut fmt::Formatter<W>) -> fmt::Result {
         match self.0 {
-            Fault::CommandLine(error) => error.fmt(f),
-            Fault::ScenarioLine(number, _) => write!(f, "scenario line {number}"),
-            Fault::Heights => f.write_str("heights"),
-            Fault::TableLine(number) => write!(f, "table line {number}"),
-            Fault::JournalLine(number) => write!(f, "journal line {number}"),
-            Fault::OtherRecord(number) => write!(f, "journal line {number}"),
-            Fault::VerdictLine(number) => write!(f, "journal line {number}"),
-            Fault::NoStep(number) => write!(f, "journal line {number}"),
-            Fault::OtherReply(number, _) => write!(f, "journal line {number}"),
-            Fault::BlkStopped(offset, _) => write!(f, "blk stopped at {offset}"),
-            Fault::BlkRecords => f.write_str("blk records"),
-            Fault::CannotRead(file, _) => write!(f, "cannot read {file}"),
-            Fault::CannotOpen(folder, file, _) => write!(f, "cannot read {folder}/{file}"),
-            Fault::NoName(name) => write!(f, "no name {name}"),
-            Fault::NoHeight(height, _) => write!(f, "no height {height}"),
-            Fault::Differs(difference) => difference.fmt(f),
-            Fault::CannotWrite(file, _) => write!(f, "cannot write {file}"),
-            Fault::CannotSave(folder, file, _) => write!(f, "cannot write {folder}/{file}"),
-            Fault::NoThread => f.write_str("no thread"),
-            Fault::Memory => f.write_str("memory"),
-            Fault::Owed => f.write_str("owed"),
-            Fault::Closed => f.write_str("closed"),
+            RunFault::CommandLine(error) => error.fmt(f),
+            RunFault::ScenarioLine(number, _) => write!(f, "scenario line {number}"),
+            RunFault::Heights => f.write_str("heights"),
+            RunFault::TableLine(number) => write!(f, "table line {number}"),
+            RunFault::JournalLine(number) => write!(f, "journal line {number}"),
+            RunFault::OtherRecord(number) => write!(f, "journal line {number}"),
+            RunFault::VerdictLine(number) => write!(f, "journal line {number}"),
+            RunFault::NoStep(number) => write!(f, "journal line {number}"),
+            RunFault::OtherReply(number, _) => write!(f, "journal line {number}"),
+            RunFault::BlkStopped(offset, _) => write!(f, "blk stopped at {offset}"),
+            RunFault::BlkRecords => f.write_str("blk records"),
+            RunFault::CannotRead(file, _) => write!(f, "cannot read {file}"),
+            RunFault::CannotOpen(folder, file, _) => write!(f, "cannot read {folder}/{file}"),
+            RunFault::NoName(name) => write!(f, "no name {name}"),
+            RunFault::NoHeight(height, _) => write!(f, "no height {height}"),
+            RunFault::Differs(difference) => difference.fmt(f),
+            RunFault::CannotWrite(file, _) => write!(f, "cannot write {file}"),
+            RunFault::CannotSave(folder, file, _) => write!(f, "cannot write {folder}/{file}"),
+            RunFault::NoThread => f.write_str("no thread"),
+            RunFault::Memory => f.write_str("memory"),
+            RunFault::Owed => f.write_str("owed"),
+            RunFault::Closed => f.write_str("closed"),
         }
     }
 }
 
 /// Why there is a fault, where its line doesn't say it.
 #[derive(Clone, Copy)]
-pub struct Reason<'f, 'w>(pub &'f Fault<'w>);
+pub struct FaultReason<'f, 'w>(pub &'f RunFault<'w>);
 
-impl fmt::Display for Reason<'_, '_> {
+impl fmt::Display for FaultReason<'_, '_> {
     fn fmt<W: fmt::Write>(&self, f: &mut fmt::Formatter<W>) -> fmt::Result {
         match self.0 {
-            Fault::ScenarioLine(_, why) => why.fmt(f),
-            Fault::Heights => {
+            RunFault::ScenarioLine(_, why) => why.fmt(f),
+            RunFault::Heights => {
                 f.write_str("they are four numbers from 0 to 4294967295, parted by commas")
             }
-            Fault::TableLine(_) => f.write_str(
+            RunFault::TableLine(_) => f.write_str(
                 "it is no key, signature and digest of 64 digits, in lower-case hexadecimal digits or -",
             ),
-            Fault::JournalLine(_) => {
+            RunFault::JournalLine(_) => {
                 f.write_str("it isn't what is printed for a step of this number")
             }
-            Fault::OtherRecord(_) => f.write_str("its record isn't the block of its id"),
-            Fault::VerdictLine(_) => {
+            RunFault::OtherRecord(_) => f.write_str("its record isn't the block of its id"),
+            RunFault::VerdictLine(_) => {
                 f.write_str("it is a verdict, and has neither the key nor the signature")
             }
-            Fault::NoStep(_) => f.write_str("it is no step behind those before it"),
-            Fault::OtherReply(_, reply) => write!(f, "the node replies {reply}"),
-            Fault::NoHeight(_, top) => write!(f, "the highest block is at {top}"),
-            Fault::BlkStopped(_, stop) => f.write_str(stop.text()),
-            Fault::BlkRecords => f.write_str("there isn't one for each submit line"),
-            Fault::CannotRead(_, error) => write_error(error, f),
-            Fault::CannotWrite(_, error) => write_error(error, f),
-            Fault::CannotSave(_, _, error) => write_error(error, f),
-            Fault::CannotOpen(_, _, error) => write_error(error, f),
-            Fault::Owed => f.write_str("there was no memory to show a step that was taken"),
+            RunFault::NoStep(_) => f.write_str("it is no step behind those before it"),
+            RunFault::OtherReply(_, reply) => write!(f, "the node replies {reply}"),
+            RunFault::NoHeight(_, top) => write!(f, "the highest block is at {top}"),
+            RunFault::BlkStopped(_, stop) => f.write_str(stop.text()),
+            RunFault::BlkRecords => f.write_str("there isn't one for each submit line"),
+            RunFault::CannotRead(_, error) => write_error(error, f),
+            RunFault::CannotWrite(_, error) => write_error(error, f),
+            RunFault::CannotSave(_, _, error) => write_error(error, f),
+            RunFault::CannotOpen(_, _, error) => write_error(error, f),
+            RunFault::Owed => f.write_str("there was no memory to show a step that was taken"),
             _ => Ok(()),
         }
     }
@@ -215,97 +215,97 @@ fn write_error<W: fmt::Write>(error: &Error, f: &mut fmt::Formatter<W>) -> fmt::
     }
 }
 
-impl Stop {
+impl BlkStop {
     fn text(self) -> &'static str {
         match self {
-            Stop::Foreign => "there is neither a record nor a rest of zero bytes",
-            Stop::Cut => "the record ends early",
-            Stop::TooLong => "the record is longer than 33554432 bytes",
+            BlkStop::Foreign => "there is neither a record nor a rest of zero bytes",
+            BlkStop::Cut => "the record ends early",
+            BlkStop::TooLong => "the record is longer than 33554432 bytes",
         }
     }
 }
 
-impl From<clap::Error> for Fault<'_> {
+impl From<clap::Error> for RunFault<'_> {
     fn from(error: clap::Error) -> Self {
         match error.kind() {
-            clap::error::ErrorKind::OutOfMemory => Fault::Memory,
-            _ => Fault::CommandLine(error),
+            clap::error::ErrorKind::OutOfMemory => RunFault::Memory,
+            _ => RunFault::CommandLine(error),
         }
     }
 }
 
-impl From<AppendFault> for Fault<'_> {
+impl From<AppendFault> for RunFault<'_> {
     fn from(fault: AppendFault) -> Self {
         match fault {
-            AppendFault::Memory => Fault::Memory,
-            AppendFault::NoLine | AppendFault::Full => Fault::Closed,
+            AppendFault::Memory => RunFault::Memory,
+            AppendFault::NoLine | AppendFault::Full => RunFault::Closed,
         }
     }
 }
 
-impl From<Memory> for Fault<'_> {
+impl From<Memory> for RunFault<'_> {
     fn from(_fault: Memory) -> Self {
-        Fault::Memory
+        RunFault::Memory
     }
 }
 
-impl From<AllocError> for Fault<'_> {
+impl From<AllocError> for RunFault<'_> {
     fn from(_error: AllocError) -> Self {
-        Fault::Memory
+        RunFault::Memory
     }
 }
 
-impl<T: Drop> From<AllocFailed<T>> for Fault<'_> {
+impl<T: Drop> From<AllocFailed<T>> for RunFault<'_> {
     fn from(_error: AllocFailed<T>) -> Self {
-        Fault::Memory
+        RunFault::Memory
     }
 }
 
-impl From<block::ReadFault> for Fault<'_> {
+impl From<block::ReadFault> for RunFault<'_> {
     fn from(fault: block::ReadFault) -> Self {
         match fault {
-            block::ReadFault::Memory => Fault::Memory,
-            _ => Fault::Closed,
+            block::ReadFault::Memory => RunFault::Memory,
+            _ => RunFault::Closed,
         }
     }
 }
 
-impl From<block::BlkFault> for Fault<'_> {
+impl From<block::BlkFault> for RunFault<'_> {
     fn from(fault: block::BlkFault) -> Self {
         match fault {
-            block::BlkFault::Foreign(offset) => Fault::BlkStopped(offset, Stop::Foreign),
-            block::BlkFault::Cut(offset) => Fault::BlkStopped(offset, Stop::Cut),
-            block::BlkFault::TooLong(offset) => Fault::BlkStopped(offset, Stop::TooLong),
-            block::BlkFault::Memory => Fault::Memory,
+            block::BlkFault::Foreign(offset) => RunFault::BlkStopped(offset, BlkStop::Foreign),
+            block::BlkFault::Cut(offset) => RunFault::BlkStopped(offset, BlkStop::Cut),
+            block::BlkFault::TooLong(offset) => RunFault::BlkStopped(offset, BlkStop::TooLong),
+            block::BlkFault::Memory => RunFault::Memory,
             // The reader is asked no more after a fault, and a slice of bytes has none of its own.
-            block::BlkFault::Read | block::BlkFault::Stopped => Fault::Closed,
+            block::BlkFault::Read | block::BlkFault::Stopped => RunFault::Closed,
         }
     }
 }
 
-impl From<JournalFault> for Fault<'_> {
+impl From<JournalFault> for RunFault<'_> {
     fn from(fault: JournalFault) -> Self {
         match fault {
-            JournalFault::BadLine(number) => Fault::JournalLine(number),
-            JournalFault::Memory => Fault::Memory,
+            JournalFault::BadLine(number) => RunFault::JournalLine(number),
+            JournalFault::Memory => RunFault::Memory,
         }
     }
 }
 
-impl From<ScenarioFault> for Fault<'_> {
+impl From<ScenarioFault> for RunFault<'_> {
     fn from(fault: ScenarioFault) -> Self {
         match fault {
-            ScenarioFault::Line(number, why) => Fault::ScenarioLine(number, why),
-            ScenarioFault::Memory => Fault::Memory,
+            ScenarioFault::Line(number, why) => RunFault::ScenarioLine(number, why),
+            ScenarioFault::Memory => RunFault::Memory,
         }
     }
 }
 
-impl From<signatures::TableFault> for Fault<'_> {
+impl From<signatures::TableFault> for RunFault<'_> {
     fn from(fault: signatures::TableFault) -> Self {
         match fault {
-            signatures::TableFault::BadLine(number) => Fault::TableLine(number),
-            signatures::TableFault::Memory => Fault::Memory,
+            signatures::TableFault::BadLine(number) => RunFault::TableLine(number),
+            signatures::TableFault::Memory => RunFault::Memory,
         }
     }
 }

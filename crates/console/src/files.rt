@@ -1,6 +1,6 @@
 //! The files of a run, and its streams.
 
-use crate::fault::Fault;
+use crate::fault::RunFault;
 use crate::options::STANDARD;
 use signatures::Table;
 use std::alloc::Global;
@@ -9,7 +9,7 @@ use std::rt::Files;
 use std::{fs, io};
 
 /// The bytes of a file.
-pub fn read_file<'w, R>(rt: &R, file: &'w str) -> Result<Vec<u8>, Fault<'w>>
+pub fn read_file<'w, R>(rt: &R, file: &'w str) -> Result<Vec<u8>, RunFault<'w>>
 where
     R: Files + AllocGlobal,
 {
@@ -20,7 +20,7 @@ where
 }
 
 /// The bytes of a file, if one is named.
-pub fn read_if_named<'w, R>(rt: &R, file: Option<&'w str>) -> Result<Option<Vec<u8>>, Fault<'w>>
+pub fn read_if_named<'w, R>(rt: &R, file: Option<&'w str>) -> Result<Option<Vec<u8>>, RunFault<'w>>
 where
     R: Files + AllocGlobal,
 {
@@ -31,7 +31,7 @@ where
 }
 
 /// The valid signatures of a table's file; none, where no file is named.
-pub fn read_table_file<'w, R>(rt: &R, file: Option<&'w str>) -> Result<Table, Fault<'w>>
+pub fn read_table_file<'w, R>(rt: &R, file: Option<&'w str>) -> Result<Table, RunFault<'w>>
 where
     R: Files + AllocGlobal,
 {
@@ -42,7 +42,11 @@ where
 }
 
 /// The bytes of a scenario's file, which may be the standard input.
-pub fn read_scenario<'w, R, I>(rt: &R, file: &'w str, input: &mut I) -> Result<Vec<u8>, Fault<'w>>
+pub fn read_scenario<'w, R, I>(
+    rt: &R,
+    file: &'w str,
+    input: &mut I,
+) -> Result<Vec<u8>, RunFault<'w>>
 where
     R: Files + AllocGlobal,
     I: Read,
@@ -58,30 +62,30 @@ where
 }
 
 /// The valid signatures of a table's text: none, where there is no text.
-pub fn read_table(alloc: Global, text: Option<&[u8]>) -> Result<Table, Fault<'static>> {
+pub fn read_table(alloc: Global, text: Option<&[u8]>) -> Result<Table, RunFault<'static>> {
     match text {
         Some(text) => Ok(Table::from_lines(alloc, text)?),
         None => Ok(Table::new(alloc)),
     }
 }
 
-fn unread<'w>(error: Error, file: &'w str) -> Fault<'w> {
+fn unread<'w>(error: Error, file: &'w str) -> RunFault<'w> {
     match error.kind() {
-        ErrorKind::OutOfMemory => Fault::Memory,
-        _ => Fault::CannotRead(file, error),
+        ErrorKind::OutOfMemory => RunFault::Memory,
+        _ => RunFault::CannotRead(file, error),
     }
 }
 
 /// Writes a text to the standard output.
-pub fn print<O: Write>(out: &mut O, text: &str) -> Result<(), Fault<'static>> {
+pub fn print<O: Write>(out: &mut O, text: &str) -> Result<(), RunFault<'static>> {
     print_bytes(out, text.as_bytes())
 }
 
 /// Writes bytes to the standard output.
-pub fn print_bytes<O: Write>(out: &mut O, bytes: &[u8]) -> Result<(), Fault<'static>> {
+pub fn print_bytes<O: Write>(out: &mut O, bytes: &[u8]) -> Result<(), RunFault<'static>> {
     match print_all(out, bytes) {
         Ok(()) => Ok(()),
-        Err(error) => Err(Fault::CannotWrite(STANDARD, error)),
+        Err(error) => Err(RunFault::CannotWrite(STANDARD, error)),
     }
 }
 

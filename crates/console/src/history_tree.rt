@@ -1,11 +1,11 @@
 //! The block tree that a history leads to.
 
-use crate::fault::Fault;
+use crate::fault::RunFault;
 use block::GENESIS_ID;
 use hash::Id;
 use journal::replayed_state;
 use model::{Bytes, Command, Reply, SubmitReply};
-use picture::{BlockTree, Status, TreeBlock};
+use picture::{BlockStatus, BlockTree, TreeBlock};
 use rules::Params;
 use scenario::{Definitions, Label};
 use signatures::Table;
@@ -24,11 +24,11 @@ struct Submitted {
 
 /// A block that is kept.
 #[derive(Clone, Copy)]
-struct Kept {
+struct HistoryBlock {
     id: Id,
     /// The place of its parent.
     parent: usize,
-    status: Status,
+    status: BlockStatus,
 }
 
 /// The tree after these commands, with the names that a scenario gives.
@@ -40,7 +40,7 @@ pub fn history_tree(
     commands: &[Command],
     table: &Table,
     definitions: Option<&Definitions>,
-) -> Result<BlockTree, Fault<'static>> {
+) -> Result<BlockTree, RunFault<'static>> {
     let submitted = submitted_blocks(alloc, commands)?;
     let questions = questions(alloc, commands)?;
     let state = replayed_state(alloc, params, commands, questions.as_slice(), table)?;
@@ -50,7 +50,10 @@ pub fn history_tree(
 }
 
 /// The blocks that are submitted, in order.
-fn submitted_blocks(alloc: Global, commands: &[Command]) -> Result<Vec<Submitted>, Fault<'static>> {
+fn submitted_blocks(
+    alloc: Global,
+    commands: &[Command],
+) -> Result<Vec<Submitted>, RunFault<'static>> {
     let mut submitted = Vec::new(alloc);
     for command in commands {
         if let Command::Submit(bytes, _) = command {
@@ -60,7 +63,7 @@ fn submitted_blocks(alloc: Global, commands: &[Command]) -> Result<Vec<Submitted
     Ok(submitted)
 }
 
-fn submitted_block(alloc: Global, bytes: &[u8]) -> Result<Submitted, Fault<'static>> {
+fn submitted_block(alloc: Global, bytes: &[u8]) -> Result<Submitted, RunFault<'static>> {
     let block = block::read(alloc, bytes)?;
     Ok(Submitted {
         id: block.id(),
@@ -69,7 +72,7 @@ fn submitted_block(alloc: Global, bytes: &[u8]) -> Result<Submitted, Fault<'stat
 }
 
 /// Each submission once more, at a moment at which no new block is accepted.
-fn questions(alloc: Global, commands: &[Command]) -> Result<Vec<Command>, Fault<'static>> {
+fn questions(alloc: Global, commands: &[Command]) -> Result<Vec<Command>, RunFault<'static>> {
     let mut questions = Vec::new(alloc);
     for command in commands {
         if let Command::Submit(bytes, _) = command {
@@ -79,7 +82,7 @@ fn questions(alloc: Global, commands: &[Command]) -> Result<Vec<Command>, Fault<
     Ok(questions)
 }
 
-fn question(alloc: Global, bytes: &[u8]) -> Result<Command, Fault<'static>> {
+fn question(alloc: Global, bytes: &[u8]) -> Result<Command, RunFault<'static>> {
     let copy = Vec::from_slice(alloc, bytes)?;
     Ok(Command::Submit(Bytes::from_vec(alloc, copy)?, 0))
 }
@@ -87,14 +90,14 @@ fn question(alloc: Global, bytes: &[u8]) -> Result<Command, Fault<'static>> {
 /// Blocks that are kept, each behind its parent, and their places.
 #[derive(Drop)]
 struct KeptBlocks {
-    list: Vec<Kept>,
+    list: Vec<HistoryBlock>,
     places: BTreeMap<Id, usize>,
 }
 
 impl KeptBlocks {
-    fn put(&mut self, id: Id, parent: usize, status: Status) -> Result<(), AllocError> {
+    fn put(&mut self, id: Id, parent: usize, status: BlockStatus) -> Result<(), AllocError> {
         self.places.insert(id, self.list.len())?;
-        self.list.push(Kept { id, parent, status })?;
+        self.list.push(HistoryBlock { id, parent, status })?;
         Ok(())
     }
 
@@ -116,12 +119,12 @@ fn kept_blocks(
     alloc: Global,
     submitted: &[Submitted],
     answers: &[Reply],
-) -> Result<Vec<Kept>, AllocError> {
+) -> Result<Vec<HistoryBlock>, AllocError> {
     let mut kept = KeptBlocks {
         list: Vec::new(alloc),
         places: BTreeMap::new(alloc),
     };
-    kept.put(GENESIS_ID, 0, Status::ValidFork)?;
+    kept.put(GENESIS_ID, 0, BlockStatus::ValidFork)?;
     for (block, answer) in submitted.iter().zip(answers) {
         kept.put_submitted(block, answer)?;
     }
@@ -130,17 +133,17 @@ fn kept_blocks(
 }
 
 /// What is known of a block, by the reply to its submission once more; none where it isn't kept.
-fn status_of(answer: &Reply) -> Option<Status> {
+fn status_of(answer: &Reply) -> Option<BlockStatus> {
     match answer {
-        Reply::Submit(SubmitReply::Duplicate) => Some(Status::ValidFork),
-        Reply::Submit(SubmitReply::DuplicateInvalid) => Some(Status::Invalid),
-        Reply::Submit(SubmitReply::DuplicateInconclusive) => Some(Status::ValidHeaders),
+        Reply::Submit(SubmitReply::Duplicate) => Some(BlockStatus::ValidFork),
+        Reply::Submit(SubmitReply::DuplicateInvalid) => Some(BlockStatus::Invalid),
+        Reply::Submit(SubmitReply::DuplicateInconclusive) => Some(BlockStatus::ValidHeaders),
         _ => None,
     }
 }
 
 /// Makes the blocks of this one's branch active.
-fn set_active(kept: &mut [Kept], best: Id) {
+fn set_active(kept: &mut [HistoryBlock], best: Id) {
     let mut place = kept
         .iter()
         .position(|block| block.id == best)
@@ -149,7 +152,7 @@ fn set_active(kept: &mut [Kept], best: Id) {
         let Some(block) = kept.get_mut(place) else {
             return;
         };
-        block.status = Status::Active;
+        block.status = BlockStatus::Active;
         if place == 0 {
             return;
         }
@@ -160,12 +163,12 @@ fn set_active(kept: &mut [Kept], best: Id) {
 /// The tree of these blocks. One is marked itself where it is invalid, and its parent isn't.
 fn tree_of(
     alloc: Global,
-    kept: &[Kept],
+    kept: &[HistoryBlock],
     definitions: Option<&Definitions>,
 ) -> Result<BlockTree, AllocError> {
     let genesis = TreeBlock {
         label: label_of(alloc, GENESIS_ID, definitions)?,
-        status: Status::Active,
+        status: BlockStatus::Active,
         is_marked: false,
     };
     let mut tree = BlockTree::new(alloc, genesis)?;
@@ -178,20 +181,20 @@ fn tree_of(
 
 fn tree_block(
     alloc: Global,
-    kept: &[Kept],
-    block: &Kept,
+    kept: &[HistoryBlock],
+    block: &HistoryBlock,
     definitions: Option<&Definitions>,
 ) -> Result<TreeBlock, AllocError> {
     Ok(TreeBlock {
         label: label_of(alloc, block.id, definitions)?,
         status: block.status,
-        is_marked: block.status == Status::Invalid && !is_invalid(kept.get(block.parent)),
+        is_marked: block.status == BlockStatus::Invalid && !is_invalid(kept.get(block.parent)),
     })
 }
 
-fn is_invalid(block: Option<&Kept>) -> bool {
+fn is_invalid(block: Option<&HistoryBlock>) -> bool {
     match block {
-        Some(block) => block.status == Status::Invalid,
+        Some(block) => block.status == BlockStatus::Invalid,
         None => false,
     }
 }

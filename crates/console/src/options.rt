@@ -4,7 +4,7 @@ use crate::command_line::command;
 use crate::view_options::read_view;
 use clap::error::ErrorKind;
 use clap::{ArgMatches, Error};
-use picture::View;
+use picture::TreeView;
 use std::alloc::{AllocError, Global};
 
 /// How a line is written.
@@ -37,7 +37,7 @@ pub const HEIGHTS: &str = "1,1,1,1";
 
 /// What the command line asks for.
 #[derive(Drop)]
-pub enum Options<'w> {
+pub enum CommandOptions<'w> {
     Run(RunOptions<'w>),
     Audit(AuditOptions<'w>),
     Tree(TreeOptions<'w>),
@@ -67,7 +67,7 @@ pub struct RunOptions<'w> {
     pub has_tree: bool,
     /// The file for a picture of the block tree.
     pub svg: Option<&'w str>,
-    pub view: View,
+    pub view: TreeView,
 }
 
 /// Where a saved run is.
@@ -109,7 +109,7 @@ pub struct TreeOptions<'w> {
     pub scenario: Option<&'w str>,
     /// The file for a picture.
     pub svg: Option<&'w str>,
-    pub view: View,
+    pub view: TreeView,
 }
 
 /// To answer requests until the standard input ends.
@@ -158,16 +158,16 @@ pub struct ShowOptions<'w> {
     pub names: Vec<&'w str>,
 }
 
-impl<'w> Options<'w> {
+impl<'w> CommandOptions<'w> {
     /// What these words ask for, of which the first is the program's name. With no others it is to run the
     /// scenario on the standard input. A tree that is printed on a terminal has colours, where nothing else is said.
     pub fn read(
         alloc: Global,
         words: &'w [&'w str],
         is_terminal: bool,
-    ) -> Result<Options<'w>, Error> {
+    ) -> Result<CommandOptions<'w>, Error> {
         if words.len() <= 1 {
-            return Ok(Options::Run(STANDARD_RUN));
+            return Ok(CommandOptions::Run(STANDARD_RUN));
         }
         let matches = matches(alloc, words)?;
         match options_of(alloc, &matches, is_terminal)? {
@@ -189,7 +189,7 @@ const STANDARD_RUN: RunOptions<'static> = RunOptions {
     form: Form::Text,
     has_tree: false,
     svg: None,
-    view: View::ALL,
+    view: TreeView::ALL,
 };
 
 fn matches<'w>(alloc: Global, words: &'w [&'w str]) -> Result<ArgMatches<'w>, Error> {
@@ -235,7 +235,7 @@ fn options_of<'w>(
     alloc: Global,
     matches: &ArgMatches<'w>,
     is_terminal: bool,
-) -> Result<Option<Options<'w>>, AllocError> {
+) -> Result<Option<CommandOptions<'w>>, AllocError> {
     match matches.subcommand() {
         Some(("run", run)) => Ok(read_run(run, is_terminal)),
         Some(("audit", audit)) => Ok(read_audit(audit)),
@@ -248,9 +248,9 @@ fn options_of<'w>(
 }
 
 /// An output that is compared has colours only where they are asked for.
-fn read_run<'w>(run: &ArgMatches<'w>, is_terminal: bool) -> Option<Options<'w>> {
+fn read_run<'w>(run: &ArgMatches<'w>, is_terminal: bool) -> Option<CommandOptions<'w>> {
     let expect = run.get_str("expect");
-    Some(Options::Run(RunOptions {
+    Some(CommandOptions::Run(RunOptions {
         scenario: run.get_str("scenario")?,
         blk: run.get_str("blk"),
         table: run.get_str("table"),
@@ -266,18 +266,18 @@ fn read_run<'w>(run: &ArgMatches<'w>, is_terminal: bool) -> Option<Options<'w>> 
 }
 
 /// Without a folder the scenario is run, and the block tree alone is shown.
-fn read_tree<'w>(tree: &ArgMatches<'w>, is_terminal: bool) -> Option<Options<'w>> {
+fn read_tree<'w>(tree: &ArgMatches<'w>, is_terminal: bool) -> Option<CommandOptions<'w>> {
     let view = read_view(tree, is_terminal);
     let (scenario, svg) = (tree.get_str("scenario"), tree.get_str("svg"));
     if let Some(saved) = tree.get_str("saved") {
-        return Some(Options::Tree(TreeOptions {
+        return Some(CommandOptions::Tree(TreeOptions {
             saved,
             scenario,
             svg,
             view,
         }));
     }
-    Some(Options::Run(RunOptions {
+    Some(CommandOptions::Run(RunOptions {
         scenario: scenario?,
         blk: tree.get_str("blk"),
         table: tree.get_str("table"),
@@ -292,8 +292,8 @@ fn read_tree<'w>(tree: &ArgMatches<'w>, is_terminal: bool) -> Option<Options<'w>
     }))
 }
 
-fn read_audit<'w>(audit: &ArgMatches<'w>) -> Option<Options<'w>> {
-    Some(Options::Audit(AuditOptions {
+fn read_audit<'w>(audit: &ArgMatches<'w>) -> Option<CommandOptions<'w>> {
+    Some(CommandOptions::Audit(AuditOptions {
         saved: read_saved(audit)?,
         is_quick: audit.get_flag("quick"),
         is_explained: audit.get_flag("explain"),
@@ -317,16 +317,19 @@ fn read_saved<'w>(audit: &ArgMatches<'w>) -> Option<Saved<'w>> {
     })
 }
 
-fn read_show<'w>(alloc: Global, show: &ArgMatches<'w>) -> Result<Option<Options<'w>>, AllocError> {
+fn read_show<'w>(
+    alloc: Global,
+    show: &ArgMatches<'w>,
+) -> Result<Option<CommandOptions<'w>>, AllocError> {
     let Some(scenario) = show.get_str("scenario") else {
         return Ok(None);
     };
     let names = Vec::from_slice(alloc, show.get_strs("names").unwrap_or(&[]))?;
-    Ok(Some(Options::Show(ShowOptions { scenario, names })))
+    Ok(Some(CommandOptions::Show(ShowOptions { scenario, names })))
 }
 
-fn read_serve<'w>(serve: &ArgMatches<'w>) -> Options<'w> {
-    Options::Serve(ServeOptions {
+fn read_serve<'w>(serve: &ArgMatches<'w>) -> CommandOptions<'w> {
+    CommandOptions::Serve(ServeOptions {
         seats: serve.get_one("seats").unwrap_or(SEATS),
         workers: serve.get_one("workers").unwrap_or(WORKERS),
         heights: serve.get_str("heights"),
@@ -342,8 +345,8 @@ fn read_serve<'w>(serve: &ArgMatches<'w>) -> Options<'w> {
     })
 }
 
-fn read_export<'w>(export: &ArgMatches<'w>) -> Option<Options<'w>> {
-    Some(Options::Export(ExportOptions {
+fn read_export<'w>(export: &ArgMatches<'w>) -> Option<CommandOptions<'w>> {
+    Some(CommandOptions::Export(ExportOptions {
         datadir: export.get_str("datadir")?,
         save: export.get_str("save")?,
     }))

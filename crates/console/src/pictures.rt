@@ -1,12 +1,12 @@
 //! The block tree of a history, as it is shown and as a picture.
 
-use crate::fault::Fault;
+use crate::fault::RunFault;
 use crate::files::{print, read_scenario};
 use crate::history_tree::history_tree;
 use crate::options::{Saved, TreeOptions};
 use crate::replay::{Replay, read_replay};
 use crate::text::read_definitions;
-use picture::{BlockTree, View, to_svg, to_text};
+use picture::{BlockTree, TreeView, to_svg, to_text};
 use scenario::Definitions;
 use signatures::Table;
 use std::alloc::Global;
@@ -21,7 +21,7 @@ pub fn draw_saved<'w, R, I, O>(
     options: &TreeOptions<'w>,
     input: &mut I,
     out: &mut O,
-) -> Result<(), Fault<'w>>
+) -> Result<(), RunFault<'w>>
 where
     R: Files<File = File> + AllocGlobal,
     I: Read,
@@ -50,7 +50,7 @@ fn tree_after<'w, R>(
     options: &TreeOptions<'w>,
     replay: &Replay,
     definitions: Option<&Definitions>,
-) -> Result<BlockTree, Fault<'w>>
+) -> Result<BlockTree, RunFault<'w>>
 where
     R: Files + AllocGlobal,
 {
@@ -66,13 +66,13 @@ where
 }
 
 /// Refuses a file that can't be a picture's, before the work: a folder, or one in no folder.
-pub fn check_picture<'w, R: Files>(rt: &R, file: Option<&'w str>) -> Result<(), Fault<'w>> {
+pub fn check_picture<'w, R: Files>(rt: &R, file: Option<&'w str>) -> Result<(), RunFault<'w>> {
     let Some(file) = file else {
         return Ok(());
     };
     match check_is_writable(rt, file) {
         Ok(()) => Ok(()),
-        Err(error) => Err(Fault::CannotWrite(file, error)),
+        Err(error) => Err(RunFault::CannotWrite(file, error)),
     }
 }
 
@@ -92,15 +92,19 @@ fn check_is_writable<R: Files>(rt: &R, file: &str) -> io::Result<()> {
 }
 
 /// A tree as text. One without a block of the first height to show is refused.
-pub fn tree_text(alloc: Global, tree: &BlockTree, view: &View) -> Result<String, Fault<'static>> {
+pub fn tree_text(
+    alloc: Global,
+    tree: &BlockTree,
+    view: &TreeView,
+) -> Result<String, RunFault<'static>> {
     check_height(tree, view)?;
     Ok(to_text(alloc, tree, view)?)
 }
 
-fn check_height(tree: &BlockTree, view: &View) -> Result<(), Fault<'static>> {
+fn check_height(tree: &BlockTree, view: &TreeView) -> Result<(), RunFault<'static>> {
     let height = view.first_height(tree);
     if height > tree.top() {
-        return Err(Fault::NoHeight(height, tree.top()));
+        return Err(RunFault::NoHeight(height, tree.top()));
     }
     Ok(())
 }
@@ -110,8 +114,8 @@ pub fn write_picture<'w, R>(
     rt: &R,
     file: Option<&'w str>,
     tree: &BlockTree,
-    view: &View,
-) -> Result<(), Fault<'w>>
+    view: &TreeView,
+) -> Result<(), RunFault<'w>>
 where
     R: Files + AllocGlobal,
 {
@@ -122,6 +126,6 @@ where
     let picture = to_svg(rt.alloc(), tree, view)?;
     match fs::write(rt, file, picture.as_bytes()) {
         Ok(()) => Ok(()),
-        Err(error) => Err(Fault::CannotWrite(file, error)),
+        Err(error) => Err(RunFault::CannotWrite(file, error)),
     }
 }

@@ -12,14 +12,14 @@ const PAUSE: u64 = 1;
 pub struct Progress<'c, 'e, C, E> {
     clock: &'c C,
     stream: &'e mut E,
-    work: Work,
+    work: WorkDone,
     /// None where nothing is to be told, or the clock can't be read.
     times: Option<Times>,
 }
 
 /// What was done so far.
 #[derive(Clone, Copy)]
-enum Work {
+enum WorkDone {
     /// How many commands were answered, and how many of them were submissions.
     Run { commands: u64, blocks: u64 },
     /// How many lines were replayed, and how many blocks the journal has.
@@ -39,7 +39,7 @@ impl<'c, 'e, C: Clock, E: Write> Progress<'c, 'e, C, E> {
         Progress {
             clock,
             stream,
-            work: Work::Run {
+            work: WorkDone::Run {
                 commands: 0,
                 blocks: 0,
             },
@@ -49,8 +49,8 @@ impl<'c, 'e, C: Clock, E: Write> Progress<'c, 'e, C, E> {
 
     /// One more command was answered.
     pub fn count(&mut self, is_submission: bool) {
-        if let Work::Run { commands, blocks } = self.work {
-            self.work = Work::Run {
+        if let WorkDone::Run { commands, blocks } = self.work {
+            self.work = WorkDone::Run {
                 commands: commands.saturating_add(1),
                 blocks: blocks.saturating_add(u64::from(is_submission)),
             };
@@ -66,7 +66,7 @@ impl<'c, 'e, C: Clock, E: Write> Progress<'c, 'e, C, E> {
                 "regchain: replaying {lines} lines, {blocks} blocks"
             );
         }
-        self.work = Work::Audit {
+        self.work = WorkDone::Audit {
             lines: 0,
             blocks: blocks as u64,
         };
@@ -97,14 +97,14 @@ impl<'c, 'e, C: Clock, E: Write> Progress<'c, 'e, C, E> {
     fn tell(&mut self, passed: Duration) {
         let millis = passed.as_millis().max(1);
         let _ = match self.work {
-            Work::Run { commands, blocks } => {
+            WorkDone::Run { commands, blocks } => {
                 let rate = u128::from(blocks) * 1000 / millis;
                 writeln!(
                     self.stream,
                     "regchain: {blocks} blocks, {rate} a second, {commands} commands"
                 )
             }
-            Work::Audit { lines, blocks } => {
+            WorkDone::Audit { lines, blocks } => {
                 let rate = u128::from(lines) * 1000 / millis;
                 writeln!(
                     self.stream,
@@ -128,8 +128,8 @@ fn begun<C: Clock>(clock: &C) -> Option<Times> {
 
 impl<C: Clock, E: Write> Watch for Progress<'_, '_, C, E> {
     fn done(&mut self, commands: usize) {
-        if let Work::Audit { blocks, .. } = self.work {
-            self.work = Work::Audit {
+        if let WorkDone::Audit { blocks, .. } = self.work {
+            self.work = WorkDone::Audit {
                 lines: commands as u64,
                 blocks,
             };

@@ -1,9 +1,9 @@
 //! What was saved of a run, read to be replayed.
 
 use crate::datadir::{
-    LOG, Setting, Unpacked, Verdict, read_bytes, read_lines, read_setting, table_of,
+    JudgedSignature, LOG, PlaySetting, Unpacked, read_bytes, read_lines, read_setting, table_of,
 };
-use crate::fault::Fault;
+use crate::fault::RunFault;
 use crate::files::{read_file, read_table, read_table_file};
 use crate::options::Saved;
 use crate::saves::{SavedFiles, read_saved};
@@ -34,21 +34,21 @@ pub struct Replay {
 
 /// What was saved of a run.
 #[derive(Drop)]
-pub struct Inputs {
+pub struct SavedRun {
     pub params: Params,
     pub journal: Vec<u8>,
     pub blk: Vec<u8>,
     /// Those of the journal's lines, where they are told again.
-    pub verdicts: Vec<Verdict>,
+    pub verdicts: Vec<JudgedSignature>,
     pub table: Table,
 }
 
 /// What so many lines of a saved journal ask, at most. Where there are more, records of theirs aren't looked at.
-pub fn read_replay<'w, R>(rt: &R, saved: &Saved<'w>, limit: usize) -> Result<Replay, Fault<'w>>
+pub fn read_replay<'w, R>(rt: &R, saved: &Saved<'w>, limit: usize) -> Result<Replay, RunFault<'w>>
 where
     R: Files<File = File> + AllocGlobal,
 {
-    let Inputs {
+    let SavedRun {
         params,
         journal,
         blk,
@@ -73,12 +73,12 @@ where
 }
 
 /// Refuses a verdict that a signature isn't valid which another says is.
-fn check_verdicts(commands: &[Command], table: &Table) -> Result<(), Fault<'static>> {
+fn check_verdicts(commands: &[Command], table: &Table) -> Result<(), RunFault<'static>> {
     for (place, command) in commands.iter().enumerate() {
         if let Command::Learn(triple, false) = command {
             let triple = triple.triple();
             if table.has(triple.key(), triple.signature(), triple.digest()) {
-                return Err(Fault::NoStep(place.saturating_add(1)));
+                return Err(RunFault::NoStep(place.saturating_add(1)));
             }
         }
     }
@@ -97,9 +97,9 @@ fn read_steps(
     alloc: Global,
     journal: &[u8],
     blk: &[u8],
-    verdicts: Vec<Verdict>,
+    verdicts: Vec<JudgedSignature>,
     limit: usize,
-) -> Result<Steps, Fault<'static>> {
+) -> Result<Steps, RunFault<'static>> {
     let front = first_lines(journal, limit);
     let steps = read_journal(alloc, front)?;
     let records = if front.len() < journal.len() {
@@ -125,7 +125,7 @@ fn replies(alloc: Global, steps: &[Step<'_, Id>]) -> Result<Vec<Option<Reply>>, 
 }
 
 /// The files of an audit, in the order in which one that can't be read is told.
-pub fn read_inputs<'w, R>(rt: &R, saved: &Saved<'w>) -> Result<Inputs, Fault<'w>>
+pub fn read_inputs<'w, R>(rt: &R, saved: &Saved<'w>) -> Result<SavedRun, RunFault<'w>>
 where
     R: Files<File = File> + AllocGlobal,
 {
@@ -138,11 +138,11 @@ where
             table,
             heights,
         } => {
-            let params = read_heights(heights).ok_or(Fault::Heights)?;
+            let params = read_heights(heights).ok_or(RunFault::Heights)?;
             let journal = read_file(rt, journal)?;
             let blk = read_file(rt, blk)?;
             let table = read_table_file(rt, *table)?;
-            Ok(Inputs {
+            Ok(SavedRun {
                 params,
                 journal,
                 blk,
@@ -154,7 +154,7 @@ where
 }
 
 /// The four files that a run saved.
-fn read_folder<'w, R>(rt: &R, folder: &'w str) -> Result<Inputs, Fault<'w>>
+fn read_folder<'w, R>(rt: &R, folder: &'w str) -> Result<SavedRun, RunFault<'w>>
 where
     R: Files<File = File> + AllocGlobal,
 {
@@ -164,8 +164,8 @@ where
         table,
         heights,
     } = read_saved(rt, folder)?;
-    let params = read_heights_line(heights.as_slice()).ok_or(Fault::Heights)?;
-    Ok(Inputs {
+    let params = read_heights_line(heights.as_slice()).ok_or(RunFault::Heights)?;
+    Ok(SavedRun {
         params,
         journal,
         blk: blocks,
@@ -175,11 +175,11 @@ where
 }
 
 /// What the whole lines of a node's log say. The node may go on.
-fn read_datadir<'w, R>(rt: &R, folder: &'w str) -> Result<Inputs, Fault<'w>>
+fn read_datadir<'w, R>(rt: &R, folder: &'w str) -> Result<SavedRun, RunFault<'w>>
 where
     R: Files<File = File> + AllocGlobal,
 {
-    let Setting { params, table } = read_setting(rt, folder)?;
+    let PlaySetting { params, table } = read_setting(rt, folder)?;
     let log = read_bytes(rt, folder, LOG)?;
     let Unpacked {
         journal,
@@ -190,7 +190,7 @@ where
         Some(table) => table,
         None => table_of(rt.alloc(), verdicts.as_slice())?,
     };
-    Ok(Inputs {
+    Ok(SavedRun {
         params,
         journal,
         blk,
@@ -220,7 +220,11 @@ fn first_lines(text: &[u8], count: usize) -> &[u8] {
 }
 
 /// The first records of a blk file, or all if it has fewer.
-fn first_records(alloc: Global, blk: &[u8], count: usize) -> Result<Vec<Vec<u8>>, Fault<'static>> {
+fn first_records(
+    alloc: Global,
+    blk: &[u8],
+    count: usize,
+) -> Result<Vec<Vec<u8>>, RunFault<'static>> {
     let mut records = Records::new(alloc, SliceSource::new(blk));
     let mut first = Vec::new(alloc);
     for _ in 0..count {
@@ -243,10 +247,10 @@ pub fn commands(
     alloc: Global,
     steps: &[Step<'_, Id>],
     records: Vec<Vec<u8>>,
-    verdicts: Vec<Verdict>,
-) -> Result<Vec<Command>, Fault<'static>> {
+    verdicts: Vec<JudgedSignature>,
+) -> Result<Vec<Command>, RunFault<'static>> {
     if submissions(steps) != records.len() {
-        return Err(Fault::BlkRecords);
+        return Err(RunFault::BlkRecords);
     }
     let mut records = records.into_iter();
     let mut verdicts = verdicts.into_iter();
@@ -263,21 +267,21 @@ fn command_of(
     alloc: Global,
     step: &Step<'_, Id>,
     records: &mut vec::IntoIter<Vec<u8>>,
-    verdicts: &mut vec::IntoIter<Verdict>,
-) -> Result<Command, Fault<'static>> {
+    verdicts: &mut vec::IntoIter<JudgedSignature>,
+) -> Result<Command, RunFault<'static>> {
     Ok(match step.asked {
         Asked::Invalidate => Command::Invalidate(step.block),
         Asked::Reconsider => Command::Reconsider(step.block),
         Asked::Precious => Command::Precious(step.block),
         Asked::Learn(valid) => {
-            let verdict = verdicts.next().ok_or(Fault::VerdictLine(step.number))?;
+            let verdict = verdicts.next().ok_or(RunFault::VerdictLine(step.number))?;
             if verdict.valid != valid || *verdict.triple.digest() != step.block.0 {
-                return Err(Fault::JournalLine(step.number));
+                return Err(RunFault::JournalLine(step.number));
             }
             Command::Learn(SharedTriple::of(&verdict.triple)?, valid)
         }
         Asked::Submit(now) => {
-            let record = records.next().ok_or(Fault::BlkRecords)?;
+            let record = records.next().ok_or(RunFault::BlkRecords)?;
             check_record(alloc, step, record.as_slice())?;
             Command::Submit(Bytes::from_vec(alloc, record)?, now)
         }
@@ -285,10 +289,14 @@ fn command_of(
 }
 
 /// Refuses a record that isn't the block of a step.
-fn check_record(alloc: Global, step: &Step<'_, Id>, record: &[u8]) -> Result<(), Fault<'static>> {
+fn check_record(
+    alloc: Global,
+    step: &Step<'_, Id>,
+    record: &[u8],
+) -> Result<(), RunFault<'static>> {
     match block::read(alloc, record) {
         Ok(block) if block.id() == step.block => Ok(()),
-        Err(ReadFault::Memory) => Err(Fault::Memory),
-        _ => Err(Fault::OtherRecord(step.number)),
+        Err(ReadFault::Memory) => Err(RunFault::Memory),
+        _ => Err(RunFault::OtherRecord(step.number)),
     }
 }

@@ -1,6 +1,6 @@
 //! The history of a run.
 
-use crate::fault::Fault;
+use crate::fault::RunFault;
 use hash::Id;
 use journal::{Asked, Step, block_of};
 use model::{Command, Entry};
@@ -52,7 +52,7 @@ impl<'d, 't> Report<'d, 't> {
         definitions: &'d Definitions,
         clients: Clients<'t>,
         entries: Vec<Entry>,
-    ) -> Result<Report<'d, 't>, Fault<'static>> {
+    ) -> Result<Report<'d, 't>, RunFault<'static>> {
         let mut blocks = Vec::new(alloc);
         for entry in entries.as_slice() {
             blocks.push(block_of(alloc, entry)?)?;
@@ -71,7 +71,7 @@ impl<'d, 't> Report<'d, 't> {
     }
 
     /// The commands of the steps, in order.
-    pub fn commands(&self, alloc: Global) -> Result<Vec<Command>, Fault<'static>> {
+    pub fn commands(&self, alloc: Global) -> Result<Vec<Command>, RunFault<'static>> {
         let mut commands = Vec::new(alloc);
         for entry in self.entries.as_slice() {
             commands.push(entry.command.copy()?)?;

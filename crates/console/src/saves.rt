@@ -4,7 +4,7 @@
 //! journal's first. That one rename decides. Where there is a `journal.txt.new`, the folder holds what it held before;
 //! where there is none, another file that still has its name with `.new` is the one that counts.
 
-use crate::fault::Fault;
+use crate::fault::RunFault;
 use crate::report::Report;
 use journal::{RecordFault, blk_file};
 use rules::Params;
@@ -27,16 +27,16 @@ const INVALID: &str = "invalid.txt";
 
 /// A file of the folder.
 #[derive(Drop)]
-struct Place {
+struct SavedFile {
     name: &'static str,
     path: String,
     /// Where it is made.
     new: String,
 }
 
-impl Place {
-    fn new(alloc: Global, folder: &str, name: &'static str) -> Result<Place, AllocError> {
-        Ok(Place {
+impl SavedFile {
+    fn new(alloc: Global, folder: &str, name: &'static str) -> Result<SavedFile, AllocError> {
+        Ok(SavedFile {
             name,
             path: format!(in alloc; "{folder}/{name}")?,
             new: format!(in alloc; "{folder}/{name}.new")?,
@@ -46,26 +46,26 @@ impl Place {
 
 /// The files of the folder.
 #[derive(Drop)]
-struct Places {
-    journal: Place,
-    blocks: Place,
-    table: Place,
-    heights: Place,
+struct FolderFiles {
+    journal: SavedFile,
+    blocks: SavedFile,
+    table: SavedFile,
+    heights: SavedFile,
 }
 
-impl Places {
-    fn new(alloc: Global, folder: &str) -> Result<Places, AllocError> {
-        Ok(Places {
-            journal: Place::new(alloc, folder, JOURNAL)?,
-            blocks: Place::new(alloc, folder, BLOCKS)?,
-            table: Place::new(alloc, folder, TABLE)?,
-            heights: Place::new(alloc, folder, HEIGHTS)?,
+impl FolderFiles {
+    fn new(alloc: Global, folder: &str) -> Result<FolderFiles, AllocError> {
+        Ok(FolderFiles {
+            journal: SavedFile::new(alloc, folder, JOURNAL)?,
+            blocks: SavedFile::new(alloc, folder, BLOCKS)?,
+            table: SavedFile::new(alloc, folder, TABLE)?,
+            heights: SavedFile::new(alloc, folder, HEIGHTS)?,
         })
     }
 }
 
 /// Refuses a name that is no folder's: nothing can be saved there.
-pub fn check_folder<'w, R: Files>(rt: &R, folder: &'w str) -> Result<(), Fault<'w>> {
+pub fn check_folder<'w, R: Files>(rt: &R, folder: &'w str) -> Result<(), RunFault<'w>> {
     match check_is_folder(rt, folder) {
         Ok(()) => Ok(()),
         Err(error) => Err(unsaved(error, folder, JOURNAL)),
@@ -88,7 +88,7 @@ pub fn save<'w, R>(
     report: &Report<'_, '_>,
     table: &Table,
     heights: &str,
-) -> Result<(), Fault<'w>>
+) -> Result<(), RunFault<'w>>
 where
     R: Files<File = File> + AllocGlobal,
 {
@@ -97,12 +97,12 @@ where
 }
 
 /// Writes these files, as `save` does. None without steps takes the place of one that has some.
-pub fn save_files<'w, R>(rt: &R, folder: &'w str, files: &SavedFiles) -> Result<(), Fault<'w>>
+pub fn save_files<'w, R>(rt: &R, folder: &'w str, files: &SavedFiles) -> Result<(), RunFault<'w>>
 where
     R: Files<File = File> + AllocGlobal,
 {
     // All names are made before anything changes.
-    let places = Places::new(rt.alloc(), folder)?;
+    let places = FolderFiles::new(rt.alloc(), folder)?;
     match lock(rt, folder) {
         Ok(_lock) => save_at(rt, folder, &places, files),
         Err(error) => Err(unsaved(error, folder, JOURNAL)),
@@ -113,9 +113,9 @@ where
 fn save_at<'w, R>(
     rt: &R,
     folder: &'w str,
-    places: &Places,
+    places: &FolderFiles,
     files: &SavedFiles,
-) -> Result<(), Fault<'w>>
+) -> Result<(), RunFault<'w>>
 where
     R: Files + AllocGlobal,
 {
@@ -153,7 +153,11 @@ fn lock<R: Files<File = File>>(rt: &R, folder: &str) -> io::Result<File> {
 }
 
 /// Ends what a run began that was killed: puts in place what counts, and takes away what doesn't.
-fn finish_last<'w, R: Files>(rt: &R, folder: &'w str, places: &Places) -> Result<(), Fault<'w>> {
+fn finish_last<'w, R: Files>(
+    rt: &R,
+    folder: &'w str,
+    places: &FolderFiles,
+) -> Result<(), RunFault<'w>> {
     if !stands(rt, places.journal.new.as_str()) {
         finish(rt, folder, &places.blocks)?;
         finish(rt, folder, &places.table)?;
@@ -163,7 +167,7 @@ fn finish_last<'w, R: Files>(rt: &R, folder: &'w str, places: &Places) -> Result
 }
 
 /// Puts a file in its place, if it is still under its other name.
-fn finish<'w, R: Files>(rt: &R, folder: &'w str, place: &Place) -> Result<(), Fault<'w>> {
+fn finish<'w, R: Files>(rt: &R, folder: &'w str, place: &SavedFile) -> Result<(), RunFault<'w>> {
     if is_file(rt, place.new.as_str()) {
         return put_in_place(rt, folder, place);
     }
@@ -171,12 +175,16 @@ fn finish<'w, R: Files>(rt: &R, folder: &'w str, place: &Place) -> Result<(), Fa
 }
 
 /// Refuses a folder that has steps.
-fn check_no_steps<'w, R: Files>(rt: &R, folder: &'w str, place: &Place) -> Result<(), Fault<'w>> {
+fn check_no_steps<'w, R: Files>(
+    rt: &R,
+    folder: &'w str,
+    place: &SavedFile,
+) -> Result<(), RunFault<'w>> {
     match fs::metadata(rt, place.path.as_str()) {
         Ok(found) if found.len() > 0 => {
             let steps = "there is a history, and it would be lost for one without steps";
             let error = Error::new(ErrorKind::AlreadyExists, steps);
-            Err(Fault::CannotSave(folder, place.name, error))
+            Err(RunFault::CannotSave(folder, place.name, error))
         }
         _ => Ok(()),
     }
@@ -186,9 +194,9 @@ fn check_no_steps<'w, R: Files>(rt: &R, folder: &'w str, place: &Place) -> Resul
 fn make_all<'w, R: Files>(
     rt: &R,
     folder: &'w str,
-    places: &Places,
+    places: &FolderFiles,
     files: &SavedFiles,
-) -> Result<(), Fault<'w>> {
+) -> Result<(), RunFault<'w>> {
     make(rt, folder, &places.journal, files.journal.as_slice())?;
     make(rt, folder, &places.blocks, files.blocks.as_slice())?;
     make(rt, folder, &places.table, files.table.as_slice())?;
@@ -202,7 +210,7 @@ fn files_of<'w>(
     report: &Report<'_, '_>,
     table: &Table,
     heights: &str,
-) -> Result<SavedFiles, Fault<'w>> {
+) -> Result<SavedFiles, RunFault<'w>> {
     Ok(SavedFiles {
         journal: report.journal_in_digits(alloc)?.into_bytes(),
         blocks: blocks_of(alloc, folder, report)?,
@@ -227,14 +235,14 @@ fn blocks_of<'w>(
     alloc: Global,
     folder: &'w str,
     report: &Report<'_, '_>,
-) -> Result<Vec<u8>, Fault<'w>> {
+) -> Result<Vec<u8>, RunFault<'w>> {
     match blk_file(alloc, report.entries()) {
         Ok(blocks) => Ok(blocks),
-        Err(RecordFault::Memory) => Err(Fault::Memory),
+        Err(RecordFault::Memory) => Err(RunFault::Memory),
         Err(RecordFault::TooLong) => {
             let long = "a block is longer than a record may be";
             let error = Error::new(ErrorKind::FileTooLarge, long);
-            Err(Fault::CannotSave(folder, BLOCKS, error))
+            Err(RunFault::CannotSave(folder, BLOCKS, error))
         }
     }
 }
@@ -243,9 +251,9 @@ fn blocks_of<'w>(
 fn make<'w, R: Files>(
     rt: &R,
     folder: &'w str,
-    place: &Place,
+    place: &SavedFile,
     bytes: &[u8],
-) -> Result<(), Fault<'w>> {
+) -> Result<(), RunFault<'w>> {
     match make_new(rt, place, bytes) {
         Ok(()) => Ok(()),
         Err(error) => Err(unsaved(error, folder, place.name)),
@@ -253,7 +261,7 @@ fn make<'w, R: Files>(
 }
 
 /// Makes a file anew: one that is there already is neither followed nor written to.
-fn make_new<R: Files>(rt: &R, place: &Place, bytes: &[u8]) -> io::Result<()> {
+fn make_new<R: Files>(rt: &R, place: &SavedFile, bytes: &[u8]) -> io::Result<()> {
     if let Ok(found) = fs::symlink_metadata(rt, place.path.as_str()) {
         if found.is_dir() {
             return Err(Error::new(ErrorKind::IsADirectory, "Is a directory"));
@@ -266,7 +274,11 @@ fn make_new<R: Files>(rt: &R, place: &Place, bytes: &[u8]) -> io::Result<()> {
     file.write_all(bytes)
 }
 
-fn put_in_place<'w, R: Files>(rt: &R, folder: &'w str, place: &Place) -> Result<(), Fault<'w>> {
+fn put_in_place<'w, R: Files>(
+    rt: &R,
+    folder: &'w str,
+    place: &SavedFile,
+) -> Result<(), RunFault<'w>> {
     match fs::rename(rt, place.new.as_str(), place.path.as_str()) {
         Ok(()) => Ok(()),
         Err(error) => Err(unsaved(error, folder, place.name)),
@@ -274,7 +286,11 @@ fn put_in_place<'w, R: Files>(rt: &R, folder: &'w str, place: &Place) -> Result<
 }
 
 /// Takes away all that isn't in its place, the journal last: as long as it is there nothing of it counts.
-fn take_away<'w, R: Files>(rt: &R, folder: &'w str, places: &Places) -> Result<(), Fault<'w>> {
+fn take_away<'w, R: Files>(
+    rt: &R,
+    folder: &'w str,
+    places: &FolderFiles,
+) -> Result<(), RunFault<'w>> {
     remove(rt, folder, &places.blocks)?;
     remove(rt, folder, &places.table)?;
     remove(rt, folder, &places.heights)?;
@@ -282,7 +298,7 @@ fn take_away<'w, R: Files>(rt: &R, folder: &'w str, places: &Places) -> Result<(
 }
 
 /// Takes a file away that isn't in its place, if it is there.
-fn remove<'w, R: Files>(rt: &R, folder: &'w str, place: &Place) -> Result<(), Fault<'w>> {
+fn remove<'w, R: Files>(rt: &R, folder: &'w str, place: &SavedFile) -> Result<(), RunFault<'w>> {
     match fs::remove_file(rt, place.new.as_str()) {
         Ok(()) => Ok(()),
         Err(error) if error.kind() == ErrorKind::NotFound => Ok(()),
@@ -302,10 +318,10 @@ fn is_file<R: Files>(rt: &R, path: &str) -> bool {
     }
 }
 
-fn unsaved<'w>(error: Error, folder: &'w str, file: &'static str) -> Fault<'w> {
+fn unsaved<'w>(error: Error, folder: &'w str, file: &'static str) -> RunFault<'w> {
     match error.kind() {
-        ErrorKind::OutOfMemory => Fault::Memory,
-        _ => Fault::CannotSave(folder, file, error),
+        ErrorKind::OutOfMemory => RunFault::Memory,
+        _ => RunFault::CannotSave(folder, file, error),
     }
 }
 
@@ -320,20 +336,24 @@ pub struct SavedFiles {
 
 /// The files that a run saved, in the order in which one that can't be read is told. A run that saves there is waited
 /// for, and of one that was killed the files are those that count.
-pub fn read_saved<'w, R>(rt: &R, folder: &'w str) -> Result<SavedFiles, Fault<'w>>
+pub fn read_saved<'w, R>(rt: &R, folder: &'w str) -> Result<SavedFiles, RunFault<'w>>
 where
     R: Files<File = File> + AllocGlobal,
 {
-    let places = Places::new(rt.alloc(), folder)?;
+    let places = FolderFiles::new(rt.alloc(), folder)?;
     if let Err(error) = check_is_folder(rt, folder) {
-        return Err(Fault::CannotOpen(folder, JOURNAL, error));
+        return Err(RunFault::CannotOpen(folder, JOURNAL, error));
     }
     // Where there are no locks it is read without one.
     let _lock = lock_to_read(rt, folder);
     read_places(rt, folder, &places)
 }
 
-fn read_places<'w, R>(rt: &R, folder: &'w str, places: &Places) -> Result<SavedFiles, Fault<'w>>
+fn read_places<'w, R>(
+    rt: &R,
+    folder: &'w str,
+    places: &FolderFiles,
+) -> Result<SavedFiles, RunFault<'w>>
 where
     R: Files + AllocGlobal,
 {
@@ -356,9 +376,9 @@ fn lock_to_read<R: Files<File = File>>(rt: &R, folder: &str) -> io::Result<File>
 fn read_place<'w, R>(
     rt: &R,
     folder: &'w str,
-    place: &Place,
+    place: &SavedFile,
     counts_new: bool,
-) -> Result<Vec<u8>, Fault<'w>>
+) -> Result<Vec<u8>, RunFault<'w>>
 where
     R: Files + AllocGlobal,
 {
@@ -366,18 +386,18 @@ where
     let path = if is_new { &place.new } else { &place.path };
     match fs::read(rt, path.as_str()) {
         Ok(bytes) => Ok(bytes),
-        Err(error) if error.kind() == ErrorKind::OutOfMemory => Err(Fault::Memory),
-        Err(error) => Err(Fault::CannotOpen(folder, place.name, error)),
+        Err(error) if error.kind() == ErrorKind::OutOfMemory => Err(RunFault::Memory),
+        Err(error) => Err(RunFault::CannotOpen(folder, place.name, error)),
     }
 }
 
 /// Writes the lines of the signatures that were found not to be valid, beside a table of those that were. Where there are
 /// none there is no such file.
-pub fn save_invalid<'w, R>(rt: &R, folder: &'w str, lines: &str) -> Result<(), Fault<'w>>
+pub fn save_invalid<'w, R>(rt: &R, folder: &'w str, lines: &str) -> Result<(), RunFault<'w>>
 where
     R: Files + AllocGlobal,
 {
-    let place = Place::new(rt.alloc(), folder, INVALID)?;
+    let place = SavedFile::new(rt.alloc(), folder, INVALID)?;
     if !lines.is_empty() {
         remove(rt, folder, &place)?;
         make(rt, folder, &place, lines.as_bytes())?;
@@ -393,11 +413,11 @@ where
 }
 
 /// The lines of the signatures that an earlier run found not to be valid; none where there is no such file.
-pub fn read_invalid<'w, R>(rt: &R, folder: &'w str) -> Result<Vec<u8>, Fault<'w>>
+pub fn read_invalid<'w, R>(rt: &R, folder: &'w str) -> Result<Vec<u8>, RunFault<'w>>
 where
     R: Files + AllocGlobal,
 {
-    let place = Place::new(rt.alloc(), folder, INVALID)?;
+    let place = SavedFile::new(rt.alloc(), folder, INVALID)?;
     if !stands(rt, place.path.as_str()) {
         return Ok(Vec::new(rt.alloc()));
     }

@@ -2,7 +2,7 @@
 
 ghost use Rattle.std.specs.Prelude.{◌≤◌, length};
 
-use crate::fault::Fault;
+use crate::fault::RunFault;
 use scenario::{Definitions, Line, lines};
 use signatures::Table;
 use std::alloc::Global;
@@ -19,7 +19,7 @@ pub fn read_definitions<'t>(
     alloc: Global,
     text: &'t [u8],
     table: Table,
-) -> Result<Text<'t>, Fault<'static>> {
+) -> Result<Text<'t>, RunFault<'static>> {
     let mut above = lines(alloc, text)?;
     let first = first_client(above.as_slice());
     let below = above.split_off(first)?;

@@ -1,11 +1,11 @@
 //! The options that say what is drawn of a block tree, and how.
 
 use clap::ArgMatches;
-use picture::{Fold, Part, View};
+use picture::{Fold, Part, TreeView};
 
 /// What these options ask for.
-pub fn read_view(matches: &ArgMatches<'_>, is_terminal: bool) -> View {
-    View {
+pub fn read_view(matches: &ArgMatches<'_>, is_terminal: bool) -> TreeView {
+    TreeView {
         part: part_of(matches),
         fold: match matches.get_str("fold") {
             Some("always") => Fold::Always,

@@ -30,26 +30,26 @@ pub struct Call {
 /// A file and those who are told of answers. A clause sees the calls so far, and `specs/Crash` says what they leave.
 pub trait Host {
     /// Why a call failed.
-    type Fault: Drop;
+    type Failure: Drop;
 
     /// The calls so far, each with the bytes that it was given.
     ghost calls: { Self → List Event };
 
     /// Writes behind the end of the file.
-    fn append(&mut self, bytes: &Vec<u8>) -> Result<(), Self::Fault>
+    fn append(&mut self, bytes: &Vec<u8>) -> Result<(), Self::Failure>
         ensures { calls self.new ≡ calls self.old
             ++ event asked.Append result bytes.now.items ∷ [] };
 
     /// Cuts the file to a length.
-    fn cut(&mut self, len: u64) -> Result<(), Self::Fault>
+    fn cut(&mut self, len: u64) -> Result<(), Self::Failure>
         ensures { calls self.new ≡ calls self.old ++ event (asked.Cut len) result [] ∷ [] };
 
     /// Brings the file onto the disk.
-    fn sync(&mut self) -> Result<(), Self::Fault>
+    fn sync(&mut self) -> Result<(), Self::Failure>
         ensures { calls self.new ≡ calls self.old ++ event asked.Sync result [] ∷ [] };
 
     /// Lets an answer out that tells of so many steps. Where it fails, it may be out.
-    fn tell(&mut self, stamp: u64, line: &Vec<u8>) -> Result<(), Self::Fault>
+    fn tell(&mut self, stamp: u64, line: &Vec<u8>) -> Result<(), Self::Failure>
         ensures { calls self.new ≡ calls self.old
             ++ event (asked.Tell stamp) result line.now.items ∷ [] };
 }

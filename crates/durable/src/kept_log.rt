@@ -27,7 +27,7 @@ pub struct Lost<F, H> {
 
 impl<H: Host> KeptLog<H> {
     /// The log of a file that was opened with these bytes, and where its whole lines end. What follows them is cut off.
-    pub fn open(alloc: Global, host: H, bytes: &[u8]) -> Result<(KeptLog<H>, u64), H::Fault>
+    pub fn open(alloc: Global, host: H, bytes: &[u8]) -> Result<(KeptLog<H>, u64), H::Failure>
     where
         H: Drop,
         requires { H.calls host ≡ opened bytes.now }
@@ -72,7 +72,7 @@ impl<H: Host> KeptLog<H> {
 
     /// Brings all that waits onto the disk, and lets answers out then, in their order, up to the first that tells of more:
     /// how many went.
-    pub fn round(self, answers: &[Answer]) -> Result<(KeptLog<H>, usize), Lost<H::Fault, H>>
+    pub fn round(self, answers: &[Answer]) -> Result<(KeptLog<H>, usize), Lost<H::Failure, H>>
         ensures same { IfOk result (λ r. history H.calls r.0.log ≡ history H.calls self.log) }
         ensures all { IfOk result (λ r. r.0.log.durable ≡ length (history H.calls self.log)) }
         ensures went { IfOk result (λ r.

@@ -16,7 +16,7 @@ pub struct Found {
 }
 
 /// Cuts off what follows the whole lines of a file that was opened with these bytes. It may crash too.
-pub fn recover<H: Host>(host: &mut H, bytes: &[u8]) -> Result<Found, H::Fault>
+pub fn recover<H: Host>(host: &mut H, bytes: &[u8]) -> Result<Found, H::Failure>
     requires { file_after (H.calls host.old) ≡ Synced bytes.now }
 
     ensures count { IfOk result (λ found. found.count ≡ length (lines bytes.now)) }

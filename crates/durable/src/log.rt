@@ -59,7 +59,7 @@ impl<T: Drop> From<AllocFailed<T>> for AppendFault {
 
 impl<H: Host> Log<H> {
     /// The log of a file that was opened with these bytes, and where its whole lines end. What follows them is cut off.
-    pub fn open(alloc: Global, host: H, bytes: &[u8]) -> Result<(Log<H>, u64), H::Fault>
+    pub fn open(alloc: Global, host: H, bytes: &[u8]) -> Result<(Log<H>, u64), H::Failure>
     where
         H: Drop,
         requires { H.calls host ≡ opened bytes.now }
@@ -121,7 +121,7 @@ impl<H: Host> Log<H> {
     }
 
     /// Brings all that waits onto the disk. After a fault the file has to be opened again.
-    pub fn commit(&mut self) -> Result<(), H::Fault>
+    pub fn commit(&mut self) -> Result<(), H::Failure>
         requires { IsSound H.calls self.old }
 
         ensures sound { OnOk result (IsSound H.calls self.new) }
@@ -142,7 +142,7 @@ impl<H: Host> Log<H> {
     }
 
     /// Lets an answer out if the disk has the steps that it tells of. Else it waits.
-    pub fn tell(&mut self, answer: &Answer) -> Result<bool, H::Fault>
+    pub fn tell(&mut self, answer: &Answer) -> Result<bool, H::Failure>
         requires { IsSound H.calls self.old }
 
         ensures sound { IsSound H.calls self.new }
@@ -162,7 +162,7 @@ impl<H: Host> Log<H> {
     }
 
     /// Lets answers out, in their order, up to the first that waits: how many went.
-    fn let_go(&mut self, answers: &[Answer]) -> Result<usize, H::Fault>
+    fn let_go(&mut self, answers: &[Answer]) -> Result<usize, H::Failure>
         requires { IsSound H.calls self.old }
 
         ensures sound { IsSound H.calls self.new }
@@ -184,7 +184,7 @@ impl<H: Host> Log<H> {
 
     /// Brings all that waits onto the disk, and lets answers out then, in their order, up to the first that tells of more:
     /// how many went. After a fault the file has to be opened again.
-    pub fn round(&mut self, answers: &[Answer]) -> Result<usize, H::Fault>
+    pub fn round(&mut self, answers: &[Answer]) -> Result<usize, H::Failure>
         requires { IsSound H.calls self.old }
 
         ensures sound { OnOk result (IsSound H.calls self.new) }

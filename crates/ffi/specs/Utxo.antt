@@ -19,7 +19,7 @@ use Rattle.connect.specs.Turns.{turn}
 use Rattle.connect.specs.Faults.{fee, input_rules}
 use Rattle.ffi.specs.declared.answers.ShownCoin.{ShownCoin}
 use Rattle.ffi.specs.declared.shown.BlockSetting.{BlockSetting}
-use Rattle.ffi.specs.declared.shown.Fault.{Fault}
+use Rattle.ffi.specs.declared.shown.BrokenRule.{BrokenRule}
 use Rattle.ffi.specs.declared.shown.InputsTold.{InputsTold}
 use Rattle.ffi.specs.Answers.{Listed, IsNextShown, params_of}
 use Rattle.ffi.specs.Codes.{input_of_reason, transaction_of_reason}
@@ -53,19 +53,19 @@ IsPut at coin before after result = ((result ≡ 0) × (after ≡ with_coin befo
 -- ---- a block
 
 -- the first rule that is broken, with the transaction and the input whose script isn't accepted; all else is 0
-abbrev pub fault_row : Option Reason → Fault
+abbrev pub fault_row : Option Reason → BrokenRule
 fault_row None = record { transaction = 0; input = 0; reason = 0 }
 fault_row (Some reason) = record { transaction = transaction_of_reason reason; input = input_of_reason reason; reason = number_of reason }
 
 -- under each set of valid signatures that agrees with what is known
-pub record IsFaultFound (s : Setting) (before after : UtxoState) (block : Block) (told : Fault) : Type 0 where
+pub record IsFaultFound (s : Setting) (before after : UtxoState) (block : Block) (told : BrokenRule) : Type 0 where
   pub found : Option Reason
   pub fault : Under (known_by before) (λ triples. IsBlockFault s before.coins block triples found)
   pub after_is : after ≡ left_by s before block found
   pub told_is : told ≡ fault_row found
 
 -- it is reported, or there is no answer, and what is reported stays
-abbrev pub IsConnectTold : Setting → Block → Fault → Fault → ℕ → UtxoState → UtxoState → Type 0
+abbrev pub IsConnectTold : Setting → Block → BrokenRule → BrokenRule → ℕ → UtxoState → UtxoState → Type 0
 IsConnectTold s block told_before told result before after =
     ((result ≡ 0) × IsFaultFound s before after block told)
     ⊎ (IsNoAnswer s before after block result × (told ≡ told_before))

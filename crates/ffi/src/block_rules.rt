@@ -44,7 +44,8 @@ pub(crate) fn refusal(fault: ReadFault) -> u32
 /// The block that all these bytes spell, with its id, its root and the first rule that it breaks by itself.
 #[unsafe(no_mangle)]
 pub extern "C" fn ffi_block(alloc: Global, bytes: &[u8], shown: &mut ShownBlock) -> u32
-    ensures told { IsBlockTold bytes.now (block_of_bytes bytes.now) (λ b. (result ≡ 0) × ShowsBlock b shown.new)
+    ensures told { IsBlockTold bytes.now (block_of_bytes bytes.now)
+        (λ b. (result ≡ 0) × ShowsBlock b shown.new)
         (shown.new ≡ shown.old) result }
     ensures fault { (e : ReadFault) → Faulty e bytes.now → IsFaultTold e result }
 {
@@ -105,7 +106,8 @@ pub extern "C" fn ffi_block_place(
     reason: &mut u32,
 ) -> u32
     ensures told { IsBlockTold bytes.now (block_of_bytes bytes.now) (λ b. (result ≡ 0) × (reason.new
-        ≡ broken_number (first_broken (context_rules (at (params_of heights.now) height) b height median now))))
+        ≡ broken_number (first_broken
+        (context_rules (at (params_of heights.now) height) b height median now))))
         (reason.new ≡ reason.old) result }
     ensures fault { (e : ReadFault) → Faulty e bytes.now → IsFaultTold e result }
 {

@@ -19,7 +19,8 @@ use wire::{Cursor, WireFault};
 /// How many bytes the block at the front takes.
 #[unsafe(no_mangle)]
 pub extern "C" fn ffi_block_size(alloc: Global, bytes: &[u8], size: &mut u64) -> u32
-    ensures { IsTold (block_at bytes.now) (λ b. (result ≡ 0) × (size.new ≡ length (grammar.block.spell b)))
+    ensures { IsTold (block_at bytes.now)
+        (λ b. (result ≡ 0) × (size.new ≡ length (grammar.block.spell b)))
         (size.new ≡ size.old) result }
 {
     let mut cursor = Cursor::new(bytes);
@@ -80,7 +81,7 @@ fn txs(alloc: Global, bytes: &mut Cursor) -> Result<Txs, TxFault>
     each_tx(alloc, bytes, count)
 }
 
-/// So many transactions. Room for them is made as they come, so a count alone takes no memory.
+/// Reads this many transactions. Room for them is made as they come, so a count alone takes no memory.
 fn each_tx(alloc: Global, bytes: &mut Cursor, count: u64) -> Result<Txs, TxFault>
     ensures { Gives wire_fault_of result bytes.new (many_at tx_at count bytes.old) }
 {

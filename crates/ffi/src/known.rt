@@ -46,7 +46,8 @@ pub extern "C" fn ffi_verify_known(
         let before = asked_of asked.old count.old in
         let after = asked_of asked.new count.new in
         IsTold (tx_at bytes.now) (λ tx. IsInputFound tx input spent.now (flags_of flags.now)
-        (lines valid.now) (lines invalid.now) line.old line.new accepted.new kept before after result)
+        (lines valid.now) (lines invalid.now) line.old line.new
+        accepted.new kept before after result)
         ((line.new ≡ line.old) × (after ≡ before) × kept) result }
 {
     let mut cursor = Cursor::new(bytes);

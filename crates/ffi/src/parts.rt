@@ -24,9 +24,11 @@ pub extern "C" fn ffi_tx_parts(
     outputs: &mut [OutputRow],
     scripts: &mut [u8],
 ) -> u32
-    ensures { let kept = (inputs.new ≡ inputs.old) × (outputs.new ≡ outputs.old) × (scripts.new ≡ scripts.old) in
+    ensures { let kept = (inputs.new ≡ inputs.old) × (outputs.new ≡ outputs.old)
+        × (scripts.new ≡ scripts.old) in
         IsTold (tx_at bytes.now) (λ tx.
-        ((result ≡ 0) × ArePut tx inputs.old inputs.new outputs.old outputs.new scripts.old scripts.new)
+        ((result ≡ 0) × ArePut tx inputs.old inputs.new outputs.old outputs.new
+        scripts.old scripts.new)
         ⊎ ((result ≡ 5) × IsTooSmall tx inputs.old outputs.old scripts.old × kept)) kept result }
 {
     let mut cursor = Cursor::new(bytes);
@@ -43,8 +45,10 @@ fn tell_parts(
     outputs: &mut [OutputRow],
     scripts: &mut [u8],
 ) -> u32
-    ensures { let kept = (inputs.new ≡ inputs.old) × (outputs.new ≡ outputs.old) × (scripts.new ≡ scripts.old) in
-        ((result ≡ 0) × ArePut tx.now inputs.old inputs.new outputs.old outputs.new scripts.old scripts.new)
+    ensures { let kept = (inputs.new ≡ inputs.old) × (outputs.new ≡ outputs.old)
+        × (scripts.new ≡ scripts.old) in
+        ((result ≡ 0) × ArePut tx.now inputs.old inputs.new outputs.old outputs.new
+        scripts.old scripts.new)
         ⊎ (((result ≡ 5) × IsTooSmall tx.now inputs.old outputs.old scripts.old × kept)
         ⊎ ((result ≡ 1) × kept)) }
 {
@@ -232,7 +236,8 @@ fn outputs_of(
         × (scripts.old ≡ output_scripts list ++ scripts.new))) }
     ensures count { IfOk result (λ found. IfSome found (λ list.
         length scripts.old ≡ output_bytes rows.now + length scripts.new)) }
-    ensures none { IfOk result (λ found. IfNone found (length scripts.old < output_bytes rows.now)) }
+    ensures none { IfOk result (λ found.
+        IfNone found (length scripts.old < output_bytes rows.now)) }
 {
     let mut list = Vec::new(alloc);
     for row in rows {

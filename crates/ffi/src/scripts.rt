@@ -75,7 +75,8 @@ pub extern "C" fn ffi_p2sh_sigops(input: &[u8], spent: &[u8]) -> u64
 /// The number that at most `most` bytes spell.
 #[unsafe(no_mangle)]
 pub extern "C" fn ffi_number(bytes: &[u8], most: u64, value: &mut i64) -> u32
-    ensures { IsNumberTold (operand (min most 8) bytes.now) value.new (value.new ≡ value.old) result }
+    ensures { IsNumberTold (operand (min most 8) bytes.now)
+        value.new (value.new ≡ value.old) result }
 {
     match Num::read(bytes, most as usize) {
         None => NONE,

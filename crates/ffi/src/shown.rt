@@ -193,7 +193,7 @@ pub struct BlockSetting<'a> {
 /// The first rule that a block breaks, 0 where there is none, with the transaction and the input whose script isn't accepted.
 #[repr(C)]
 #[derive(Clone, Copy, Drop)]
-pub struct Fault {
+pub struct BrokenRule {
     pub transaction: u64,
     pub input: u64,
     pub reason: u32,

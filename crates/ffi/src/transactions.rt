@@ -115,7 +115,8 @@ pub extern "C" fn ffi_tx_final(
     cutoff: u32,
     yes: &mut u32,
 ) -> u32
-    ensures { IsTold (tx_at bytes.now) (λ tx. (result ≡ 0) × (yes.new ≡ bit (is_final tx height cutoff)))
+    ensures { IsTold (tx_at bytes.now)
+        (λ tx. (result ≡ 0) × (yes.new ≡ bit (is_final tx height cutoff)))
         (yes.new ≡ yes.old) result }
 {
     let mut cursor = Cursor::new(bytes);

@@ -21,7 +21,7 @@ use crate::block_rules::refusal;
 use crate::known::tell_line;
 use crate::lists::{outpoint, tell_coin, tell_next};
 use crate::lookups::tell_spent;
-use crate::shown::{BlockSetting, Fault, InputsTold};
+use crate::shown::{BlockSetting, BrokenRule, InputsTold};
 use crate::transactions::front;
 use crate::utxo::Utxo;
 use crate::utxo_slot::{UtxoSlot, put_utxo, take_utxo};
@@ -245,7 +245,7 @@ pub extern "C" fn ffi_connect(
     slot: &mut UtxoSlot,
     bytes: &[u8],
     setting: &BlockSetting,
-    fault: &mut Fault,
+    fault: &mut BrokenRule,
 ) -> u32
     ensures told { IsBlockTold bytes.now (block_of_bytes bytes.now) (λ block.
         Becomes slot.old.kept.value slot.new.kept.value (λ before after.
@@ -272,7 +272,7 @@ fn connect_block(
     utxo: &mut Utxo,
     block: Block,
     setting: &BlockSetting,
-    fault: &mut Fault,
+    fault: &mut BrokenRule,
 ) -> u32
     ensures { IsConnectTold (setting_of setting.now) block fault.old fault.new result
         utxo.old utxo.new }
@@ -298,10 +298,10 @@ fn connect_block(
     }
 }
 
-fn fault_row(found: Option<Reason>) -> Fault
+fn fault_row(found: Option<Reason>) -> BrokenRule
     ensures { result ≡ fault_row found }
 {
-    let mut row = Fault {
+    let mut row = BrokenRule {
         transaction: 0,
         input: 0,
         reason: 0,

@@ -23,7 +23,8 @@ pub fn read_out(reader: &mut Records<'_>) -> Result<(), BlkFault>
 
 /// The blocks of a blk file's bytes, in the order of their records.
 pub fn read_records(alloc: Global, bytes: &[u8]) -> Result<Vec<Vec<u8>>, BlkFault>
-    ensures read { IfOk result (λ records. AreAll bytes.now (map (λ block. block.items) records.items)) }
+    ensures read { IfOk result (λ records.
+        AreAll bytes.now (map (λ block. block.items) records.items)) }
     ensures refused { IfErr result (IsRefused 0 bytes.now) }
 {
     let mut records = Vec::new(alloc);

@@ -28,7 +28,8 @@ pub fn read_heights(word: &str) -> Option<Params>
 fn front_height(word: &str) -> Option<(u32, &str)>
     ensures spelled { IfSome result (λ found. (digits : List ℕ)
         × (word.now ≡ digits ++ 0x2c ∷ found.1.now) × IsNumber digits found.0) }
-    ensures reads { (digits rest : List ℕ) (n : ℕ) → word.now ≡ digits ++ 0x2c ∷ rest → IsNumber digits n
+    ensures reads { (digits rest : List ℕ) (n : ℕ)
+        → word.now ≡ digits ++ 0x2c ∷ rest → IsNumber digits n
         → MatchOption result ⊥ (λ found. (found.0 ≡ n) × (found.1.now ≡ rest)) }
 {
     let (front, rest) = word.split_once(',')?;

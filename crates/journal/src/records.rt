@@ -48,7 +48,8 @@ pub fn blk_file(alloc: Global, entries: &[Entry]) -> Result<Vec<u8>, RecordFault
 fn put_submission(out: &mut Vec<u8>, entry: &Entry) -> Result<(), RecordFault>
     ensures file { OnOk result (out.new.items ≡ out.old.items ++ record_of entry.now) }
     ensures fits { OnOk result (is_long entry.now.command ≡ false) }
-    ensures long { IfErr result (λ fault. fault ≡ faults.TooLong → is_long entry.now.command ≡ true) }
+    ensures long { IfErr result (λ fault.
+        fault ≡ faults.TooLong → is_long entry.now.command ≡ true) }
 {
     match &entry.command {
         Command::Submit(block, _) => put_record(out, block.as_slice()),

@@ -106,7 +106,7 @@ impl<'t, J: Naming> Seat<'t, J> {
             IfErr result (IsJudgeFault self.old self.new asked) }
     {
         let _ = &self.params;
-        if !history.settle(rt) {
+        if !history.publish_pending(rt) {
             return Err(Fault::Memory);
         }
         let crews = Crews {

@@ -12,13 +12,13 @@ use queue::Verdicts;
 use signatures::{KeptTriple, KnownSignatures, KnowsSignatures};
 use std::alloc::Global;
 use std::marker::{Model, PhantomData};
-use view::{Naming, Note};
+use view::{Naming, SeenHistory};
 
 /// Verdicts that a seat told, with a history that has them. What other seats told isn't here.
 #[derive(Drop)]
 pub(crate) struct Learnt<J: Naming> {
     found: KnownSignatures,
-    seen: Note,
+    seen: SeenHistory,
     of: PhantomData<J>,
 }
 
@@ -39,7 +39,7 @@ impl<J: Naming> Model for Learnt<J> {
 
 impl<J: Naming> Learnt<J> {
     /// No verdict, of a history that a seat has seen.
-    pub(crate) fn new(alloc: Global, seen: Note) -> Learnt<J>
+    pub(crate) fn new(alloc: Global, seen: SeenHistory) -> Learnt<J>
         requires book { seen.book ≡ J.origin.book }
         ensures { result.seen ≡ seen }
     {
@@ -66,7 +66,7 @@ impl<J: Naming> Learnt<J> {
     }
 
     /// A history that has them.
-    pub(crate) fn seen(&self) -> Note
+    pub(crate) fn seen(&self) -> SeenHistory
         ensures book { result.book ≡ J.origin.book }
         ensures known { Grows (verdict_in self.now.found) (known_in J.origin result.entries) }
     {
@@ -74,7 +74,7 @@ impl<J: Naming> Learnt<J> {
     }
 
     /// One verdict more, of a history. Where there is no memory for it it isn't kept, which costs time alone.
-    pub(crate) fn add(&mut self, triple: &KeptTriple, valid: bool, history: Note)
+    pub(crate) fn add(&mut self, triple: &KeptTriple, valid: bool, history: SeenHistory)
         requires book { history.book ≡ J.origin.book }
         requires legal { IsLegal J.origin history.entries }
         requires known { known_in J.origin history.entries triple.now ≡ Some valid }
@@ -93,7 +93,7 @@ impl<J: Naming> Learnt<J> {
 #[derive(Drop)]
 pub(crate) struct Early<'t> {
     pub(crate) verdicts: Verdicts<'t>,
-    pub(crate) seen: Note,
+    pub(crate) seen: SeenHistory,
 }
 
 /// The verdicts, if the history under the lock goes on from theirs.

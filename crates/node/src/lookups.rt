@@ -52,7 +52,7 @@ impl<'t, J: Naming> Seat<'t, J> {
         ensures fault { IfErr result (λ fault. IsReadFault self.old self.new fault) }
     {
         let _ = &self.params;
-        if !history.settle(rt) {
+        if !history.publish_pending(rt) {
             return Err(Fault::Memory);
         }
         let value = history.spent(id)?;

@@ -164,7 +164,7 @@ fn seat_list<'t, J: Naming>(
     params: Params,
     table: Option<&'t Arc<Table>>,
     tokens: SeatTokens,
-    note: &view::Note,
+    note: &view::SeenHistory,
     readers: Vec<ViewReader<J>>,
 ) -> Result<Vec<Seat<'t, J>>, Memory>
     requires empty { note.now.entries ≡ [] }

@@ -8,7 +8,7 @@ use view::Naming;
 /// What a seat has seen of the history. It may go to another thread, through a channel or a lock, whose seat is told it.
 #[derive(Drop)]
 pub struct Note<J: Naming> {
-    pub(crate) seen: view::Note,
+    pub(crate) seen: view::SeenHistory,
     pub(crate) of: PhantomData<J>,
 }
 

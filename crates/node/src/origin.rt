@@ -22,7 +22,7 @@ pub struct Opening<'g> {
     pub(crate) seats: usize,
     pub(crate) tokens: SeatTokens,
     pub(crate) counter: EntryCount,
-    pub(crate) note: view::Note,
+    pub(crate) note: view::SeenHistory,
 }
 
 impl<'g> Model for Opening<'g> {
@@ -70,7 +70,7 @@ impl<'g> Opening<'g> {
         ensures { let triples = option_map (λ t. arc_value t.now) table.entry in
             (b : Book) × (result ≡ origin_of b params triples seats) }
     {
-        let (counter, note) = view::Note::open();
+        let (counter, note) = view::SeenHistory::open();
         Opening {
             params,
             table,

@@ -54,7 +54,7 @@ use std::mem::replace;
 use std::sync::atomic::Ordering;
 use std::sync::{Arc, Wait};
 use undo::BlockUndo;
-use view::{Hub, Naming, Note, Publication, reserve_one};
+use view::{Hub, Naming, Publication, SeenHistory, reserve_one};
 use wire::Memory;
 
 /// The history, with the chainstate after it but its coins. A step is owed that is taken and not yet published.
@@ -183,7 +183,7 @@ impl<J: Naming> PublishedHistory<J> {
     }
 
     /// The history that is published.
-    pub(crate) fn note(&self) -> Note
+    pub(crate) fn note(&self) -> SeenHistory
         ensures entries { self.now.owed ≡ false → result.entries ≡ self.now.journal }
         ensures book { result.book ≡ J.origin.book }
         ensures legal { self.now.owed ≡ false → IsLegal J.origin result.entries }
@@ -194,7 +194,7 @@ impl<J: Naming> PublishedHistory<J> {
     }
 
     /// The history, if it has this verdict and all of it is published.
-    pub(crate) fn that_knows(&self, triple: &KeptTriple, valid: bool) -> Option<Note>
+    pub(crate) fn that_knows(&self, triple: &KeptTriple, valid: bool) -> Option<SeenHistory>
         ensures book { IfSome result (λ note. note.book ≡ J.origin.book) }
         ensures legal { IfSome result (λ note. IsLegal J.origin note.entries) }
         ensures known { IfSome result (λ note.
@@ -270,7 +270,7 @@ impl<J: Naming> PublishedHistory<J> {
     }
 
     /// Publishes the step that is owed, if one is.
-    pub(crate) fn settle<R: Wait>(&mut self, rt: &R) -> bool
+    pub(crate) fn publish_pending<R: Wait>(&mut self, rt: &R) -> bool
         ensures shown { (result ≡ true) → self.new ≡ record self.old { owed = false } }
         ensures same { (result ≡ false) → self.new ≡ self.old }
     {

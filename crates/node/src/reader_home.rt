@@ -5,7 +5,7 @@ ghost use Rattle.view.specs.ViewState.{IsExact, IsLegal};
 ghost use Rattle.node.specs.inside.Seats.{IsFound};
 
 use std::marker::Model;
-use view::{Naming, Note, ViewReader, ViewReading, enter};
+use view::{Naming, SeenHistory, ViewReader, ViewReading, enter};
 
 /// A reader, or its place while it is in a view. A clause sees whether it is here.
 #[derive(Drop)]
@@ -48,7 +48,7 @@ impl<J: Naming> ReaderHome<J> {
     }
 
     /// Enters it, if it is just this history.
-    pub(crate) fn enter_at(&mut self, note: &Note) -> Option<ViewReading<J>>
+    pub(crate) fn enter_at(&mut self, note: &SeenHistory) -> Option<ViewReading<J>>
         requires { note.now.book ≡ J.origin.book }
         ensures home { MatchOption result
             (self.new ≡ self.old) (λ _. (self.old ≡ true) × (self.new ≡ false)) }
@@ -67,7 +67,7 @@ impl<J: Naming> ReaderHome<J> {
     }
 
     /// Enters it, if it goes on from what was seen: the view, and a note of all of it.
-    pub(crate) fn enter_from(&mut self, seen: &Note) -> Option<(ViewReading<J>, Note)>
+    pub(crate) fn enter_from(&mut self, seen: &SeenHistory) -> Option<(ViewReading<J>, SeenHistory)>
         requires { seen.now.book ≡ J.origin.book }
         ensures home { MatchOption result
             (self.new ≡ self.old) (λ _. (self.old ≡ true) × (self.new ≡ false)) }
@@ -94,7 +94,7 @@ impl<J: Naming> ReaderHome<J> {
 }
 
 /// Whether another beginning of the same history is just as long. Then it is the same, as one of them begins the other.
-fn is_whole(note: &Note, found: &Note) -> bool
+fn is_whole(note: &SeenHistory, found: &SeenHistory) -> bool
     requires { found.now.book ≡ note.now.book }
     ensures { Decides result (found.now.entries ≡ note.now.entries) }
 {

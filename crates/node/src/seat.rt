@@ -26,7 +26,7 @@ pub struct Seat<'t, J: Naming> {
     pub(crate) table: Option<&'t Arc<Table>>,
     pub(crate) token: SeatToken<J>,
     /// What it has seen.
-    pub(crate) seen: view::Note,
+    pub(crate) seen: view::SeenHistory,
     /// The place of its last own entry whose reply it was told, from 1; 0 where there is none.
     pub(crate) answered: u64,
     /// The commands of its own steps since then, whose replies are owed.
@@ -127,7 +127,7 @@ impl<'t, J: Naming> Seat<'t, J> {
         params: Params,
         table: Option<&'t Arc<Table>>,
         token: SeatToken<J>,
-        seen: view::Note,
+        seen: view::SeenHistory,
         reader: ViewReader<J>,
     ) -> Seat<'t, J>
         requires empty { seen.entries ≡ [] }
@@ -151,7 +151,7 @@ impl<'t, J: Naming> Seat<'t, J> {
 
     /// Has seen this too, which goes on from what it had seen: how many entries that has.
     #[tactic(auto, using(crate::proofs::OwnEntries::own_begins))]
-    pub(crate) fn see(&mut self, found: view::Note) -> u64
+    pub(crate) fn see(&mut self, found: view::SeenHistory) -> u64
         requires book { found.book ≡ J.origin.book }
         requires grows { IsPrefix self.old.seen found.entries }
         requires legal { IsLegal J.origin found.entries }

@@ -86,7 +86,7 @@ fn ready_command<J: Naming, R: Wait>(
         return Err(Memory);
     }
     let asked = command.command()?;
-    if !history.settle(rt) {
+    if !history.publish_pending(rt) {
         return Err(Memory);
     }
     Ok(asked)
@@ -355,7 +355,7 @@ impl<'t, J: Naming> Seat<'t, J> {
             IfErr result (IsWriteFault self.old self.new asked) }
     {
         // Room for a step that may be owed, as each step asks for it first.
-        if self.owed.reserve(1).is_err() || !history.settle(rt) {
+        if self.owed.reserve(1).is_err() || !history.publish_pending(rt) {
             return Err(Fault::Memory);
         }
         if let Some(known) = history.find(triple) {

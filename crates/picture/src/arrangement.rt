@@ -1,8 +1,8 @@
 //! The pieces of a picture: blocks by themselves, and blocks that are drawn as one.
 
-use crate::block_tree::{BlockTree, Node};
-use crate::starts::{Branching, Order, Start, What, add_roots, add_starts, stub_of};
-use crate::status::{Look, Status};
+use crate::block_tree::{BlockTree, PlacedBlock};
+use crate::starts::{Branching, Order, PieceStart, What, add_roots, add_starts, stub_of};
+use crate::status::{BlockStatus, Look};
 use crate::subtrees::{Subtree, all_subtrees};
 use std::alloc::{AllocError, Global};
 
@@ -13,9 +13,9 @@ const MIN_RUN: usize = 4;
 /// folded, with all that is on it; or a stub.
 #[derive(Drop)]
 pub struct Piece<'t> {
-    pub first: &'t Node,
+    pub first: &'t PlacedBlock,
     /// The highest of its blocks.
-    pub last: &'t Node,
+    pub last: &'t PlacedBlock,
     /// How many blocks it has.
     pub count: usize,
     /// On how many of them nothing is built, of a folded branch; of others 1.
@@ -43,7 +43,7 @@ pub struct At {
 
 /// How the pieces of a tree are found.
 #[derive(Clone, Copy)]
-pub struct Finding {
+pub struct PieceSearch {
     /// From which height on.
     pub from: usize,
     /// Whether a branch beside the active one is one piece, and each piece is in one column.
@@ -56,10 +56,10 @@ pub struct Finding {
 struct Finder<'t> {
     alloc: Global,
     tree: &'t BlockTree,
-    finding: Finding,
+    finding: PieceSearch,
     subtrees: Vec<Subtree>,
     pieces: Vec<Piece<'t>>,
-    starts: Vec<Start>,
+    starts: Vec<PieceStart>,
     /// How many lines of pieces have begun.
     lines: usize,
 }
@@ -68,7 +68,7 @@ struct Finder<'t> {
 pub fn pieces<'t>(
     alloc: Global,
     tree: &'t BlockTree,
-    finding: Finding,
+    finding: PieceSearch,
 ) -> Result<Vec<Piece<'t>>, AllocError> {
     let mut finder = Finder {
         alloc,
@@ -93,7 +93,7 @@ pub fn pieces<'t>(
 
 impl<'t> Finder<'t> {
     /// Takes a piece, and adds those on it to those to come.
-    fn take(&mut self, start: Start) -> Result<(), AllocError> {
+    fn take(&mut self, start: PieceStart) -> Result<(), AllocError> {
         let line = start.line.unwrap_or(self.lines);
         self.lines = self.lines.max(line.saturating_add(1));
         match start.what {
@@ -104,11 +104,16 @@ impl<'t> Finder<'t> {
     }
 
     /// Takes the piece whose first block is that of a place.
-    fn take_blocks(&mut self, place: usize, line: usize, start: Start) -> Result<(), AllocError> {
+    fn take_blocks(
+        &mut self,
+        place: usize,
+        line: usize,
+        start: PieceStart,
+    ) -> Result<(), AllocError> {
         let Some(first) = self.tree.node(place) else {
             return Ok(());
         };
-        if self.finding.is_folded && first.block.status != Status::Active {
+        if self.finding.is_folded && first.block.status != BlockStatus::Active {
             return self.take_folded(place, line, start);
         }
         let end = end_of(self.tree, place);
@@ -140,12 +145,12 @@ impl<'t> Finder<'t> {
     fn add_on(
         &mut self,
         place: usize,
-        block: &Node,
+        block: &PlacedBlock,
         line: usize,
         rest: &str,
     ) -> Result<bool, AllocError> {
         let children = self.tree.children(self.alloc, place)?;
-        let is_active = block.block.status == Status::Active;
+        let is_active = block.block.status == BlockStatus::Active;
         let main = main_of(self.tree, block, children.as_slice());
         let branching = Branching {
             below: self.pieces.len(),
@@ -165,7 +170,12 @@ impl<'t> Finder<'t> {
     }
 
     /// Takes the block of a place with all that is on it as one piece.
-    fn take_folded(&mut self, place: usize, line: usize, start: Start) -> Result<(), AllocError> {
+    fn take_folded(
+        &mut self,
+        place: usize,
+        line: usize,
+        start: PieceStart,
+    ) -> Result<(), AllocError> {
         let Some(all) = self.subtrees.get(place).copied() else {
             return Ok(());
         };
@@ -196,14 +206,14 @@ impl<'t> Finder<'t> {
         &mut self,
         place: usize,
         line: usize,
-        start: Start,
+        start: PieceStart,
         is_with_branch: bool,
     ) -> Result<(), AllocError> {
         let Some(block) = stub_of(self.tree, place) else {
             return Ok(());
         };
         if is_with_branch {
-            self.starts.push(Start {
+            self.starts.push(PieceStart {
                 what: What::Blocks(place),
                 below: Some(self.pieces.len()),
                 line: Some(line),
@@ -261,13 +271,13 @@ fn only_like(tree: &BlockTree, place: usize) -> Option<usize> {
 }
 
 /// Which of the blocks on one goes on in its line: on an active one the active one, else the first.
-fn main_of(tree: &BlockTree, node: &Node, children: &[usize]) -> Option<usize> {
-    if node.block.status != Status::Active {
+fn main_of(tree: &BlockTree, node: &PlacedBlock, children: &[usize]) -> Option<usize> {
+    if node.block.status != BlockStatus::Active {
         return children.first().copied();
     }
     for child in children {
         if let Some(above) = tree.node(*child) {
-            if above.block.status == Status::Active {
+            if above.block.status == BlockStatus::Active {
                 return Some(*child);
             }
         }

@@ -1,6 +1,6 @@
 //! The tree that is drawn.
 
-use crate::status::Status;
+use crate::status::BlockStatus;
 use std::alloc::{AllocError, Global};
 
 /// A block that is drawn.
@@ -8,14 +8,14 @@ use std::alloc::{AllocError, Global};
 pub struct TreeBlock {
     /// Its name, or what is shown in place of one.
     pub label: String,
-    pub status: Status,
+    pub status: BlockStatus,
     /// Whether it is marked itself, and not only a block below it.
     pub is_marked: bool,
 }
 
 /// A block at its place: its parent, and its children, linked in the order in which they came.
 #[derive(Drop)]
-pub(crate) struct Node {
+pub(crate) struct PlacedBlock {
     pub block: TreeBlock,
     pub height: usize,
     /// None for the block that all others are built on.
@@ -28,7 +28,7 @@ pub(crate) struct Node {
 /// A tree of blocks, each by the place at which it came.
 #[derive(Drop)]
 pub struct BlockTree {
-    nodes: Vec<Node>,
+    nodes: Vec<PlacedBlock>,
     top: usize,
 }
 
@@ -36,7 +36,7 @@ impl BlockTree {
     /// The block that all others are built on, at place 0 and height 0.
     pub fn new(alloc: Global, genesis: TreeBlock) -> Result<BlockTree, AllocError> {
         let mut nodes = Vec::new(alloc);
-        nodes.push(Node::new(genesis, 0, None))?;
+        nodes.push(PlacedBlock::new(genesis, 0, None))?;
         Ok(BlockTree { nodes, top: 0 })
     }
 
@@ -48,7 +48,8 @@ impl BlockTree {
         };
         let before = below.last_child;
         let height = below.height.saturating_add(1);
-        self.nodes.push(Node::new(block, height, Some(parent)))?;
+        self.nodes
+            .push(PlacedBlock::new(block, height, Some(parent)))?;
         self.top = self.top.max(height);
         if let Some(below) = self.nodes.get_mut(parent) {
             below.last_child = Some(place);
@@ -74,7 +75,7 @@ impl BlockTree {
         self.top
     }
 
-    pub(crate) fn node(&self, place: usize) -> Option<&Node> {
+    pub(crate) fn node(&self, place: usize) -> Option<&PlacedBlock> {
         self.nodes.get(place)
     }
 
@@ -99,9 +100,9 @@ impl BlockTree {
     }
 }
 
-impl Node {
-    fn new(block: TreeBlock, height: usize, parent: Option<usize>) -> Node {
-        Node {
+impl PlacedBlock {
+    fn new(block: TreeBlock, height: usize, parent: Option<usize>) -> PlacedBlock {
+        PlacedBlock {
             block,
             height,
             parent,

@@ -29,9 +29,9 @@ pub struct Scale {
     pub column: usize,
     /// Half of what shows several blocks in one column.
     pub half: usize,
-    /// So many letters of a name are written.
+    /// How many letters of a name are written.
     pub letters: usize,
-    /// So many of each of two names over one column; none where the second isn't written.
+    /// How many of each of two names over one column; none where the second isn't written.
     pub of_two: Option<usize>,
 }
 

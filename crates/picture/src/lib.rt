@@ -16,7 +16,7 @@ mod view;
 mod xml_text;
 
 pub use block_tree::{BlockTree, TreeBlock};
-pub use status::Status;
+pub use status::BlockStatus;
 pub use svg::to_svg;
 pub use text::to_text;
-pub use view::{Fold, Part, View};
+pub use view::{Fold, Part, TreeView};

@@ -1,7 +1,7 @@
 //! Where pieces begin, and in which order they come.
 
-use crate::block_tree::{BlockTree, Node};
-use crate::status::Status;
+use crate::block_tree::{BlockTree, PlacedBlock};
+use crate::status::BlockStatus;
 use std::alloc::{AllocError, Global};
 
 /// In which order pieces come: a piece, and then those on it.
@@ -26,7 +26,7 @@ pub enum What {
 
 /// A piece that is to come.
 #[derive(Drop)]
-pub struct Start {
+pub struct PieceStart {
     pub what: What,
     /// The place of the piece that it is built on.
     pub below: Option<usize>,
@@ -54,7 +54,7 @@ pub fn add_starts(
     branching: &Branching,
     children: &[usize],
     rest: &str,
-    starts: &mut Vec<Start>,
+    starts: &mut Vec<PieceStart>,
 ) -> Result<(), AllocError> {
     if matches!(branching.order, Order::MainLast) {
         add_main(alloc, branching, rest, starts)?;
@@ -63,7 +63,7 @@ pub fn add_starts(
     for child in children.iter().rev() {
         if branching.main != Some(*child) {
             let (turn, line) = columns(branching.is_active, is_last);
-            starts.push(Start {
+            starts.push(PieceStart {
                 what: What::Blocks(*child),
                 below: Some(branching.below),
                 line: None,
@@ -84,10 +84,10 @@ fn add_main(
     alloc: Global,
     branching: &Branching,
     rest: &str,
-    starts: &mut Vec<Start>,
+    starts: &mut Vec<PieceStart>,
 ) -> Result<(), AllocError> {
     if let Some(place) = branching.main {
-        starts.push(Start {
+        starts.push(PieceStart {
             what: What::Blocks(place),
             below: Some(branching.below),
             line: Some(branching.line),
@@ -116,7 +116,7 @@ pub fn add_roots(
     tree: &BlockTree,
     from: usize,
     order: Order,
-    starts: &mut Vec<Start>,
+    starts: &mut Vec<PieceStart>,
 ) -> Result<(), AllocError> {
     if from == 0 {
         starts.push(root(alloc, What::Blocks(0), "", "")?)?;
@@ -145,8 +145,8 @@ pub fn add_roots(
 }
 
 /// A line of pieces that is built on none.
-fn root(alloc: Global, what: What, lead: &str, rest: &str) -> Result<Start, AllocError> {
-    Ok(Start {
+fn root(alloc: Global, what: What, lead: &str, rest: &str) -> Result<PieceStart, AllocError> {
+    Ok(PieceStart {
         what,
         below: None,
         line: None,
@@ -156,8 +156,8 @@ fn root(alloc: Global, what: What, lead: &str, rest: &str) -> Result<Start, Allo
 }
 
 /// What goes on behind the active branch's stub, the first piece.
-fn active_root(alloc: Global, place: usize) -> Result<Start, AllocError> {
-    Ok(Start {
+fn active_root(alloc: Global, place: usize) -> Result<PieceStart, AllocError> {
+    Ok(PieceStart {
         below: Some(0),
         line: Some(0),
         ..root(alloc, What::Blocks(place), "", "")?
@@ -169,14 +169,14 @@ fn active_at(tree: &BlockTree, height: usize) -> Option<usize> {
     (0..tree.len()).find(|place| is_active_at(tree.node(*place), height))
 }
 
-fn is_active_at(node: Option<&Node>, height: usize) -> bool {
+fn is_active_at(node: Option<&PlacedBlock>, height: usize) -> bool {
     match node {
-        Some(node) => node.height == height && node.block.status == Status::Active,
+        Some(node) => node.height == height && node.block.status == BlockStatus::Active,
         None => false,
     }
 }
 
-fn is_at(node: Option<&Node>, height: usize) -> bool {
+fn is_at(node: Option<&PlacedBlock>, height: usize) -> bool {
     match node {
         Some(node) => node.height == height,
         None => false,
@@ -184,11 +184,11 @@ fn is_at(node: Option<&Node>, height: usize) -> bool {
 }
 
 /// The active block that the branch of a place begins on: the highest that is active below it.
-pub fn stub_of(tree: &BlockTree, place: usize) -> Option<&Node> {
+pub fn stub_of(tree: &BlockTree, place: usize) -> Option<&PlacedBlock> {
     let mut node = tree.node(place)?;
     for _ in 0..tree.len() {
         node = tree.node(node.parent?)?;
-        if node.block.status == Status::Active {
+        if node.block.status == BlockStatus::Active {
             break;
         }
     }

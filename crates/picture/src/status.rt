@@ -2,7 +2,7 @@
 
 /// What is known of a block (Bitcoin Core's words, as in `getchaintips`).
 #[derive(Clone, Copy, PartialEq, Eq)]
-pub enum Status {
+pub enum BlockStatus {
     /// It is on the active branch.
     Active,
     /// It was found valid, and isn't on the active branch.
@@ -28,12 +28,12 @@ pub(crate) enum Look {
 
 impl Look {
     /// That of a status, or of blocks of several.
-    pub fn of(status: Option<Status>) -> Look {
+    pub fn of(status: Option<BlockStatus>) -> Look {
         match status {
-            Some(Status::Active) => Look::Active,
-            Some(Status::ValidFork) => Look::ValidFork,
-            Some(Status::ValidHeaders) => Look::ValidHeaders,
-            Some(Status::Invalid) => Look::Invalid,
+            Some(BlockStatus::Active) => Look::Active,
+            Some(BlockStatus::ValidFork) => Look::ValidFork,
+            Some(BlockStatus::ValidHeaders) => Look::ValidHeaders,
+            Some(BlockStatus::Invalid) => Look::Invalid,
             None => Look::Mixed,
         }
     }

@@ -1,7 +1,7 @@
 //! Each block with what is built on it.
 
-use crate::block_tree::{BlockTree, Node};
-use crate::status::Status;
+use crate::block_tree::{BlockTree, PlacedBlock};
+use crate::status::BlockStatus;
 use std::alloc::{AllocError, Global};
 
 /// A block and all that is built on it.
@@ -16,13 +16,13 @@ pub struct Subtree {
     /// Its height.
     pub height: usize,
     /// None where they differ.
-    pub status: Option<Status>,
+    pub status: Option<BlockStatus>,
     /// Whether one of them is marked itself.
     pub is_marked: bool,
 }
 
 impl Subtree {
-    fn of_one(place: usize, node: &Node) -> Subtree {
+    fn of_one(place: usize, node: &PlacedBlock) -> Subtree {
         Subtree {
             count: 1,
             tips: usize::from(node.first_child.is_none()),

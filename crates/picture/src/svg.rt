@@ -1,13 +1,13 @@
 //! A tree as SVG.
 
-use crate::arrangement::{Finding, Piece, pieces};
+use crate::arrangement::{Piece, PieceSearch, pieces};
 use crate::block_tree::BlockTree;
 use crate::geometry::{LEGEND_LINE, Layout};
 use crate::legend::{MEANINGS, Meaning};
 use crate::shapes::{HALF, Shape};
 use crate::starts::Order;
 use crate::status::Look;
-use crate::view::{Fold, View};
+use crate::view::{Fold, TreeView};
 use crate::xml_text::write_escaped;
 use std::alloc::{AllocError, Global};
 
@@ -59,13 +59,13 @@ text{fill:#e6edf3}\
 
 /// A tree as a picture: heights from left to right, the active branch above and thick, the others below it, and what the
 /// shapes mean.
-pub fn to_svg(alloc: Global, tree: &BlockTree, view: &View) -> Result<String, AllocError> {
-    let open = Finding {
+pub fn to_svg(alloc: Global, tree: &BlockTree, view: &TreeView) -> Result<String, AllocError> {
+    let open = PieceSearch {
         from: view.first_height(tree),
         is_folded: false,
         order: Order::MainFirst,
     };
-    let finding = Finding {
+    let finding = PieceSearch {
         is_folded: is_folded(alloc, tree, open, view.fold)?,
         ..open
     };
@@ -84,7 +84,7 @@ pub fn to_svg(alloc: Global, tree: &BlockTree, view: &View) -> Result<String, Al
 fn is_folded(
     alloc: Global,
     tree: &BlockTree,
-    open: Finding,
+    open: PieceSearch,
     fold: Fold,
 ) -> Result<bool, AllocError> {
     match fold {

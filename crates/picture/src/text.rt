@@ -1,17 +1,17 @@
 //! A tree on a terminal.
 
-use crate::arrangement::{Finding, Piece, pieces};
+use crate::arrangement::{Piece, PieceSearch, pieces};
 use crate::block_tree::BlockTree;
 use crate::legend::write_legend;
 use crate::starts::Order;
-use crate::view::{Fold, View};
+use crate::view::{Fold, TreeView};
 use std::alloc::{AllocError, Global};
 
 /// A tree as lines, from the lowest height on: a line for each block or run, with its shape, names, heights and status.
 /// Branches beside the active one stand to the right.
-pub fn to_text(alloc: Global, tree: &BlockTree, view: &View) -> Result<String, AllocError> {
+pub fn to_text(alloc: Global, tree: &BlockTree, view: &TreeView) -> Result<String, AllocError> {
     let mut text = String::new(alloc);
-    let finding = Finding {
+    let finding = PieceSearch {
         from: view.first_height(tree),
         is_folded: matches!(view.fold, Fold::Always),
         order: Order::MainLast,

@@ -4,7 +4,7 @@ use crate::block_tree::BlockTree;
 
 /// What is drawn of a tree, and how.
 #[derive(Clone, Copy)]
-pub struct View {
+pub struct TreeView {
     pub part: Part,
     pub fold: Fold,
     /// Whether text has the colours of a terminal (ECMA-48).
@@ -19,7 +19,7 @@ pub enum Part {
     All,
     /// From this one on.
     From(usize),
-    /// So many, up to that of the highest block, of whatever status.
+    /// This many, up to that of the highest block, of whatever status.
     Last(usize),
 }
 
@@ -32,9 +32,9 @@ pub enum Fold {
     Never,
 }
 
-impl View {
+impl TreeView {
     /// All of a tree.
-    pub const ALL: View = View {
+    pub const ALL: TreeView = TreeView {
         part: Part::All,
         fold: Fold::Auto,
         is_colored: false,

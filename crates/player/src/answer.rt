@@ -6,21 +6,21 @@ use std::fmt;
 
 /// What a command is answered.
 #[derive(Drop)]
-pub enum Answer<'d> {
+pub enum CommandAnswer<'d> {
     Reply(Reply),
     Best(Label<'d>),
     Tips(&'d Definitions, Vec<Tip>),
     Output(Option<UnspentOutput>),
 }
 
-impl fmt::Display for Answer<'_> {
+impl fmt::Display for CommandAnswer<'_> {
     fn fmt<W: fmt::Write>(&self, f: &mut fmt::Formatter<W>) -> fmt::Result {
         match self {
-            Answer::Reply(reply) => reply.fmt(f),
-            Answer::Best(block) => block.fmt(f),
-            Answer::Tips(definitions, list) => write_tips(definitions, list.as_slice(), f),
-            Answer::Output(None) => f.write_str("none"),
-            Answer::Output(Some(output)) => write_output(output, f),
+            CommandAnswer::Reply(reply) => reply.fmt(f),
+            CommandAnswer::Best(block) => block.fmt(f),
+            CommandAnswer::Tips(definitions, list) => write_tips(definitions, list.as_slice(), f),
+            CommandAnswer::Output(None) => f.write_str("none"),
+            CommandAnswer::Output(Some(output)) => write_output(output, f),
         }
     }
 }

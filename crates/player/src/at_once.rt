@@ -1,8 +1,8 @@
 //! Seats that answer at once, or one after the other: a client each, or in a ring the calls of the second client, which
 //! are dealt out to them.
 
-use crate::board::Board;
-use crate::log::{Asked, Log};
+use crate::board::RingBoard;
+use crate::log::{PlayLog, PlayOptions};
 use crate::seat_calls::ask_again;
 use doors::Meeting;
 use node::{Naming, Node, Seat};
@@ -16,9 +16,9 @@ use wire::Memory;
 
 /// A seat, and what it answered.
 #[derive(Drop)]
-pub struct Place<'t, J: Naming> {
+pub struct SeatAnswer<'t, J: Naming> {
     pub seat: Seat<'t, J>,
-    pub log: Log,
+    pub log: PlayLog,
     pub written: Result<(), Memory>,
 }
 
@@ -26,24 +26,24 @@ pub struct Place<'t, J: Naming> {
 pub fn places_of<J: Naming>(
     alloc: Global,
     seats: Vec<Seat<'_, J>>,
-) -> Result<Vec<Place<'_, J>>, AllocError> {
+) -> Result<Vec<SeatAnswer<'_, J>>, AllocError> {
     let mut places = Vec::new(alloc);
     for seat in seats {
-        places.push(Place {
+        places.push(SeatAnswer {
             seat,
-            log: Log::new(alloc),
+            log: PlayLog::new(alloc),
             written: Ok(()),
         })?;
     }
     Ok(places)
 }
 
-impl<'t, J: Naming> Place<'t, J> {
+impl<'t, J: Naming> SeatAnswer<'t, J> {
     /// Makes these calls.
     fn ask_all<R>(
         &mut self,
         rt: &R,
-        asked: &Asked<'_>,
+        asked: &PlayOptions<'_>,
         node: &Node<'_, J>,
         calls: &[Call<'_, '_>],
     ) -> Result<(), Memory>
@@ -62,10 +62,10 @@ impl<'t, J: Naming> Place<'t, J> {
     fn ask_in_ring<R>(
         &mut self,
         rt: &R,
-        asked: &Asked<'_>,
+        asked: &PlayOptions<'_>,
         node: &Node<'_, J>,
         calls: &[Call<'_, '_>],
-        board: &Board<J>,
+        board: &RingBoard<J>,
         number: usize,
     ) -> Result<(), Memory>
     where
@@ -91,11 +91,11 @@ impl<'t, J: Naming> Place<'t, J> {
 /// when it has ended. Where the board has seats, they stand in a ring, and share the calls of the second client.
 pub fn ask_at_once<'x, J: Naming, R>(
     rt: &'x R,
-    asked: &'x Asked<'_>,
+    asked: &'x PlayOptions<'_>,
     node: &'x Node<'_, J>,
-    places: &mut [Place<'_, J>],
+    places: &mut [SeatAnswer<'_, J>],
     gate: &'x Meeting,
-    board: &'x Board<J>,
+    board: &'x RingBoard<J>,
 )
 where
     R: AllocGlobal + Env + Threads + Wait + Sync,
@@ -107,13 +107,13 @@ where
         .max(1);
     // Two closures, each with less than both ask for, are shown to cross threads.
     if board.seats() > 0 {
-        let ask_one = |number: usize, place: &mut Place<'_, J>| {
+        let ask_one = |number: usize, place: &mut SeatAnswer<'_, J>| {
             place.written = place.ask_in_ring(rt, asked, node, asked.calls(1), board, number);
         };
         thread::for_each_mut(rt, places, threads, &ask_one);
         return;
     }
-    let ask_one = |number: usize, place: &mut Place<'_, J>| {
+    let ask_one = |number: usize, place: &mut SeatAnswer<'_, J>| {
         let client = number.wrapping_add(1);
         if client < asked.clients.len() {
             if number == 0 {

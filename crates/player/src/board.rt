@@ -6,18 +6,22 @@ use std::sync::{Mutex, Wait};
 
 /// What each seat of a ring has seen by its last answer.
 #[derive(Drop)]
-pub struct Board<J: Naming> {
+pub struct RingBoard<J: Naming> {
     notes: Vec<Mutex<Note<J>>>,
 }
 
-impl<J: Naming> Board<J> {
+impl<J: Naming> RingBoard<J> {
     /// What the first ones of these seats have seen, so many.
-    pub fn new(alloc: Global, seats: &[Seat<'_, J>], count: usize) -> Result<Board<J>, AllocError> {
+    pub fn new(
+        alloc: Global,
+        seats: &[Seat<'_, J>],
+        count: usize,
+    ) -> Result<RingBoard<J>, AllocError> {
         let mut notes = Vec::new(alloc);
         for seat in seats.iter().take(count) {
             notes.push(Mutex::new(seat.note()))?;
         }
-        Ok(Board { notes })
+        Ok(RingBoard { notes })
     }
 
     /// How many seats it has.

@@ -2,10 +2,10 @@
 //! what is read between them. The second client names the outputs that are looked at.
 
 use crate::allocations::{begin, end};
-use crate::chainstates::{Chain, Desk, Whole};
-use crate::log::{Asked, Log};
+use crate::chainstates::{AnyChain, ChainDesk, Whole};
+use crate::log::{PlayLog, PlayOptions};
 use crate::seat_calls::MOST_TRIES;
-use crate::state::{State, read, state_of};
+use crate::state::{StateLines, read, state_of};
 use anyhow::bail;
 use model::{Bytes, Command, Reply};
 use reference::slow;
@@ -28,7 +28,7 @@ fn command_of(alloc: Global, request: &Request<'_>) -> Result<Option<Command>, M
 }
 
 /// All commands of the first client.
-fn commands_of(alloc: Global, asked: &Asked<'_>) -> Result<Vec<Command>, Memory> {
+fn commands_of(alloc: Global, asked: &PlayOptions<'_>) -> Result<Vec<Command>, Memory> {
     let mut commands = Vec::new(alloc);
     for call in asked.calls(0) {
         if let Some(command) = command_of(alloc, &call.request)? {
@@ -39,7 +39,11 @@ fn commands_of(alloc: Global, asked: &Asked<'_>) -> Result<Vec<Command>, Memory>
 }
 
 /// Writes replies to the commands of the first client.
-fn write_replies(asked: &Asked<'_>, replies: &[Reply], log: &mut Log) -> Result<(), Memory> {
+fn write_replies(
+    asked: &PlayOptions<'_>,
+    replies: &[Reply],
+    log: &mut PlayLog,
+) -> Result<(), Memory> {
     let mut replies = replies.iter();
     for call in asked.calls(0) {
         if !matches!(
@@ -55,7 +59,11 @@ fn write_replies(asked: &Asked<'_>, replies: &[Reply], log: &mut Log) -> Result<
 }
 
 /// The replies of the definition.
-pub fn play_definition(alloc: Global, asked: &Asked<'_>, log: &mut Log) -> Result<(), Memory> {
+pub fn play_definition(
+    alloc: Global,
+    asked: &PlayOptions<'_>,
+    log: &mut PlayLog,
+) -> Result<(), Memory> {
     let commands = commands_of(alloc, asked)?;
     let table = asked.definitions.table();
     let replies = slow(alloc, &asked.params, commands.as_slice(), table)?;
@@ -63,7 +71,7 @@ pub fn play_definition(alloc: Global, asked: &Asked<'_>, log: &mut Log) -> Resul
 }
 
 /// The replies of a chainstate to all commands at once, and its state after them.
-pub fn play_run(alloc: Global, asked: &Asked<'_>, log: &mut Log) -> Result<(), Memory> {
+pub fn play_run(alloc: Global, asked: &PlayOptions<'_>, log: &mut PlayLog) -> Result<(), Memory> {
     let commands = commands_of(alloc, asked)?;
     let mut whole = Whole::new(alloc, asked.params, asked.definitions.table())?;
     let replies = whole.run(alloc, commands.as_slice())?;
@@ -75,7 +83,7 @@ pub fn play_run(alloc: Global, asked: &Asked<'_>, log: &mut Log) -> Result<(), M
     )
 }
 
-fn write_state(state: &State, log: &mut Log) -> Result<(), Memory> {
+fn write_state(state: &StateLines, log: &mut PlayLog) -> Result<(), Memory> {
     log.text.push_str(state.head.as_str())?;
     Ok(log.text.push_str(state.coins.as_str())?)
 }
@@ -83,16 +91,16 @@ fn write_state(state: &State, log: &mut Log) -> Result<(), Memory> {
 /// A chainstate of genesis alone, as often as memory is refused.
 fn opened<'t, R>(
     rt: &R,
-    asked: &Asked<'t>,
+    asked: &PlayOptions<'t>,
     is_lent: bool,
-    log: &mut Log,
-) -> anyhow::Result<Chain<'t>>
+    log: &mut PlayLog,
+) -> anyhow::Result<AnyChain<'t>>
 where
     R: AllocGlobal + Env,
 {
     for _ in 0..MOST_TRIES {
         begin(rt, asked.options.number("skipped", 0) == 0);
-        let opened = Chain::new(rt.alloc(), asked.params, asked.definitions.table(), is_lent);
+        let opened = AnyChain::new(rt.alloc(), asked.params, asked.definitions.table(), is_lent);
         let refused = end(rt);
         let outcome = if opened.is_ok() { "answered" } else { "memory" };
         log.refused(refused, "with", outcome)?;
@@ -104,7 +112,11 @@ where
 }
 
 /// What a chainstate shows.
-fn shown(alloc: Global, asked: &Asked<'_>, chain: &Chain<'_>) -> Result<State, Memory> {
+fn shown(
+    alloc: Global,
+    asked: &PlayOptions<'_>,
+    chain: &AnyChain<'_>,
+) -> Result<StateLines, Memory> {
     let look = chain.look(alloc)?;
     state_of(alloc, asked.definitions, &look, asked.calls(1))
 }
@@ -112,10 +124,10 @@ fn shown(alloc: Global, asked: &Asked<'_>, chain: &Chain<'_>) -> Result<State, M
 /// Writes what a call reads, if it takes no step: whether it takes none.
 fn write_read(
     alloc: Global,
-    asked: &Asked<'_>,
-    chain: &Chain<'_>,
+    asked: &PlayOptions<'_>,
+    chain: &AnyChain<'_>,
     call: &Call<'_, '_>,
-    log: &mut Log,
+    log: &mut PlayLog,
 ) -> Result<bool, Memory> {
     let look = chain.look(alloc)?;
     let Some(answer) = read(alloc, asked.definitions, &look, &call.request)? else {
@@ -128,13 +140,13 @@ fn write_read(
 /// Takes a command until it isn't refused memory, and writes its reply. A refusal that changes the state is written.
 fn taken<'t, R>(
     rt: &R,
-    asked: &Asked<'_>,
-    mut chain: Chain<'t>,
-    state: &State,
+    asked: &PlayOptions<'_>,
+    mut chain: AnyChain<'t>,
+    state: &StateLines,
     call: &Call<'_, '_>,
     is_counted: bool,
-    log: &mut Log,
-) -> Result<Chain<'t>, Memory>
+    log: &mut PlayLog,
+) -> Result<AnyChain<'t>, Memory>
 where
     R: AllocGlobal + Env,
 {
@@ -142,7 +154,7 @@ where
         let Some(command) = command_of(rt.alloc(), &call.request)? else {
             break;
         };
-        let desk = Desk {
+        let desk = ChainDesk {
             is_counted,
             outputs: asked.calls(1),
             coins: state.coins.as_str(),
@@ -163,17 +175,17 @@ where
 }
 
 /// A chainstate, and its state.
-type Standing<'t> = (Chain<'t>, State);
+type ChainAndState<'t> = (AnyChain<'t>, StateLines);
 
 /// Makes the call of this place, and gives the state after it, which is written where that is asked for.
 fn made<'t, R>(
     rt: &R,
-    asked: &Asked<'_>,
-    (chain, state): Standing<'t>,
+    asked: &PlayOptions<'_>,
+    (chain, state): ChainAndState<'t>,
     place: usize,
     call: &Call<'_, '_>,
-    log: &mut Log,
-) -> Result<Standing<'t>, Memory>
+    log: &mut PlayLog,
+) -> Result<ChainAndState<'t>, Memory>
 where
     R: AllocGlobal + Env,
 {
@@ -191,7 +203,12 @@ where
 }
 
 /// Makes the first client's calls one after the other, and writes the state at the end.
-pub fn play_chain<R>(rt: &R, asked: &Asked<'_>, is_lent: bool, log: &mut Log) -> anyhow::Result<()>
+pub fn play_chain<R>(
+    rt: &R,
+    asked: &PlayOptions<'_>,
+    is_lent: bool,
+    log: &mut PlayLog,
+) -> anyhow::Result<()>
 where
     R: AllocGlobal + Env,
 {

@@ -5,7 +5,7 @@ ghost use Rattle.coins.specs.Changes.{after_changes};
 ghost use Rattle.activate.specs.CoreState.{Follows, coins_of};
 
 use crate::allocations::{begin, end};
-use crate::log::Log;
+use crate::log::PlayLog;
 use crate::seat_calls::MOST_TRIES;
 use crate::state::coins_text;
 use activate::{Chainstate, Core};
@@ -62,17 +62,17 @@ impl<'t> Model for Lent<'t> {
 
 /// Either of them.
 #[derive(Drop)]
-pub enum Chain<'t> {
+pub enum AnyChain<'t> {
     Whole(Whole<'t>),
     Lent(Lent<'t>),
 }
 
 /// A chainstate after a command, and the reply, if there was memory for it.
-type Taken<'t> = (Chain<'t>, Option<Reply>);
+type AfterCommand<'t> = (AnyChain<'t>, Option<Reply>);
 
 /// How a command is taken.
 #[derive(Clone, Copy)]
-pub struct Desk<'p> {
+pub struct ChainDesk<'p> {
     /// Allocations count.
     pub is_counted: bool,
     /// The outputs that are looked at.
@@ -83,7 +83,7 @@ pub struct Desk<'p> {
 
 /// What a chainstate shows.
 #[derive(Drop)]
-pub struct Look<'c> {
+pub struct ChainLook<'c> {
     pub best: Id,
     pub height: usize,
     pub undo_kept: usize,
@@ -109,8 +109,8 @@ impl<'t> Whole<'t> {
         self.chain.run(alloc, commands, &env, &Open)
     }
 
-    pub fn look(&self, alloc: Global) -> Result<Look<'_>, Memory> {
-        Ok(Look {
+    pub fn look(&self, alloc: Global) -> Result<ChainLook<'_>, Memory> {
+        Ok(ChainLook {
             best: self.chain.best(),
             height: self.chain.height(),
             undo_kept: self.chain.undo_kept(),
@@ -128,8 +128,8 @@ impl<'t> Lent<'t> {
         Ok(Lent { core, coins, table })
     }
 
-    pub fn look(&self, alloc: Global) -> Result<Look<'_>, Memory> {
-        Ok(Look {
+    pub fn look(&self, alloc: Global) -> Result<ChainLook<'_>, Memory> {
+        Ok(ChainLook {
             best: self.core.best(),
             height: self.core.height(),
             undo_kept: self.core.undo_kept(),
@@ -143,9 +143,9 @@ impl<'t> Lent<'t> {
         self,
         rt: &R,
         command: &Command,
-        desk: &Desk<'_>,
-        log: &mut Log,
-    ) -> Result<Taken<'t>, Memory>
+        desk: &ChainDesk<'_>,
+        log: &mut PlayLog,
+    ) -> Result<AfterCommand<'t>, Memory>
     where
         R: AllocGlobal + Env,
     {
@@ -159,12 +159,12 @@ impl<'t> Lent<'t> {
         let refused = end(rt);
         let Ok((reply, changes)) = done else {
             log.refused(refused, "step_over", "memory")?;
-            return Ok((Chain::Lent(Lent { core, coins, table }), None));
+            return Ok((AnyChain::Lent(Lent { core, coins, table }), None));
         };
         log.refused(refused, "step_over", "answered")?;
         log.answer(&"changes", changes.len())?;
         lay(rt, &mut coins, &changes, desk, log)?;
-        Ok((Chain::Lent(Lent { core, coins, table }), Some(reply)))
+        Ok((AnyChain::Lent(Lent { core, coins, table }), Some(reply)))
     }
 }
 
@@ -197,8 +197,8 @@ fn lay<R>(
     rt: &R,
     coins: &mut CoinMap,
     changes: &Changes,
-    desk: &Desk<'_>,
-    log: &mut Log,
+    desk: &ChainDesk<'_>,
+    log: &mut PlayLog,
 ) -> Result<(), Memory>
 where
     R: AllocGlobal + Env,
@@ -228,9 +228,9 @@ impl<'t> Whole<'t> {
         mut self,
         rt: &R,
         command: &[Command],
-        desk: &Desk<'_>,
-        log: &mut Log,
-    ) -> Result<Taken<'t>, Memory>
+        desk: &ChainDesk<'_>,
+        log: &mut PlayLog,
+    ) -> Result<AfterCommand<'t>, Memory>
     where
         R: AllocGlobal + Env,
     {
@@ -243,28 +243,28 @@ impl<'t> Whole<'t> {
             Ok(replies) => replies.first().copied(),
             Err(Memory) => None,
         };
-        Ok((Chain::Whole(self), reply))
+        Ok((AnyChain::Whole(self), reply))
     }
 }
 
-impl<'t> Chain<'t> {
+impl<'t> AnyChain<'t> {
     /// A chainstate of genesis alone.
     pub fn new(
         alloc: Global,
         params: Params,
         table: &'t Table,
         is_lent: bool,
-    ) -> Result<Chain<'t>, Memory> {
+    ) -> Result<AnyChain<'t>, Memory> {
         if is_lent {
-            return Ok(Chain::Lent(Lent::new(alloc, params, table)?));
+            return Ok(AnyChain::Lent(Lent::new(alloc, params, table)?));
         }
-        Ok(Chain::Whole(Whole::new(alloc, params, table)?))
+        Ok(AnyChain::Whole(Whole::new(alloc, params, table)?))
     }
 
-    pub fn look(&self, alloc: Global) -> Result<Look<'_>, Memory> {
+    pub fn look(&self, alloc: Global) -> Result<ChainLook<'_>, Memory> {
         match self {
-            Chain::Whole(whole) => whole.look(alloc),
-            Chain::Lent(lent) => lent.look(alloc),
+            AnyChain::Whole(whole) => whole.look(alloc),
+            AnyChain::Lent(lent) => lent.look(alloc),
         }
     }
 
@@ -273,15 +273,15 @@ impl<'t> Chain<'t> {
         self,
         rt: &R,
         command: Command,
-        desk: &Desk<'_>,
-        log: &mut Log,
-    ) -> Result<Taken<'t>, Memory>
+        desk: &ChainDesk<'_>,
+        log: &mut PlayLog,
+    ) -> Result<AfterCommand<'t>, Memory>
     where
         R: AllocGlobal + Env,
     {
         match self {
-            Chain::Whole(whole) => whole.take(rt, &[command], desk, log),
-            Chain::Lent(lent) => lent.take(rt, &command, desk, log),
+            AnyChain::Whole(whole) => whole.take(rt, &[command], desk, log),
+            AnyChain::Lent(lent) => lent.take(rt, &command, desk, log),
         }
     }
 }

@@ -7,7 +7,7 @@
 
 ghost use Rattle.std.specs.Prelude.{◌≡◌};
 
-use crate::log::{Asked, Log};
+use crate::log::{PlayLog, PlayOptions};
 use crate::seat_calls::ask_again;
 use anyhow::bail;
 use crossbeam_channel::{Receiver, Sender};
@@ -28,7 +28,7 @@ fn ask_all<J: Naming, R>(
     node: &Node<'_, J>,
     seat: &mut Seat<'_, J>,
     calls: &[Call<'_, '_>],
-    log: &mut Log,
+    log: &mut PlayLog,
 ) -> Result<(), Memory>
 where
     R: AllocGlobal + Env + Threads + Wait + Sync,
@@ -47,11 +47,11 @@ fn write<J: Naming, R>(
     seat: &mut Seat<'_, J>,
     calls: &[Call<'_, '_>],
     to: Sender<Note<J>>,
-) -> Result<Log, Memory>
+) -> Result<PlayLog, Memory>
 where
     R: AllocGlobal + Env + Threads + Wait + Sync,
 {
-    let mut log = Log::new(rt.alloc());
+    let mut log = PlayLog::new(rt.alloc());
     let (front, last) = calls.split_at(calls.len().saturating_sub(1));
     ask_all(rt, definitions, node, seat, front, &mut log)?;
     let _ = to.send(rt, seat.note());
@@ -70,11 +70,11 @@ fn read_both<J: Naming, R>(
     calls: &[Call<'_, '_>],
     gate: &Meeting,
     from: Receiver<Note<J>>,
-) -> Result<Log, Memory>
+) -> Result<PlayLog, Memory>
 where
     R: AllocGlobal + Env + Threads + Wait + Sync,
 {
-    let mut log = Log::new(rt.alloc());
+    let mut log = PlayLog::new(rt.alloc());
     gate.wait_for_a_script();
     for _ in 0..2u32 {
         if let Ok(note) = from.recv(rt) {
@@ -93,11 +93,11 @@ fn read_last<J: Naming, R>(
     node: &Node<'_, J>,
     seat: &mut Seat<'_, J>,
     calls: &[Call<'_, '_>],
-) -> Result<Log, Memory>
+) -> Result<PlayLog, Memory>
 where
     R: AllocGlobal + Env + Threads + Wait + Sync,
 {
-    let mut log = Log::new(rt.alloc());
+    let mut log = PlayLog::new(rt.alloc());
     ask_all(rt, definitions, node, seat, calls, &mut log)?;
     Ok(log)
 }
@@ -105,9 +105,9 @@ where
 /// Plays three clients at three seats on three threads.
 pub fn play_handover<R>(
     rt: &R,
-    asked: &Asked<'_>,
+    asked: &PlayOptions<'_>,
     gate: &Meeting,
-    log: &mut Log,
+    log: &mut PlayLog,
 ) -> anyhow::Result<()>
 where
     R: AllocGlobal + Env + Threads + Wait + Sync,
@@ -119,13 +119,13 @@ where
 /// What three seats on three threads are answered: the writer, the reader that is told its notes, and the last one.
 fn ask_three<J: Naming, R>(
     rt: &R,
-    asked: &Asked<'_>,
+    asked: &PlayOptions<'_>,
     node: &Node<'_, J>,
     writer: &mut Seat<'_, J>,
     reader: &mut Seat<'_, J>,
     last: &mut Seat<'_, J>,
     gate: &Meeting,
-) -> Result<(Log, Log, Log), Memory>
+) -> Result<(PlayLog, PlayLog, PlayLog), Memory>
 where
     R: AllocGlobal + Env + Threads + Wait + Sync,
 {
@@ -146,11 +146,11 @@ where
 /// Asks the first three of some seats.
 fn ask_first_three<J: Naming, R>(
     rt: &R,
-    asked: &Asked<'_>,
+    asked: &PlayOptions<'_>,
     node: &Node<'_, J>,
     seats: &mut [Seat<'_, J>],
     gate: &Meeting,
-) -> anyhow::Result<(Log, Log, Log)>
+) -> anyhow::Result<(PlayLog, PlayLog, PlayLog)>
 where
     R: AllocGlobal + Env + Threads + Wait + Sync,
 {
@@ -167,7 +167,10 @@ where
 }
 
 /// Writes what was answered.
-fn write_answers(answered: anyhow::Result<(Log, Log, Log)>, log: &mut Log) -> anyhow::Result<()> {
+fn write_answers(
+    answered: anyhow::Result<(PlayLog, PlayLog, PlayLog)>,
+    log: &mut PlayLog,
+) -> anyhow::Result<()> {
     let (written, read, seen) = answered?;
     log.client("writer", &written)?;
     log.client("reader", &read)?;
@@ -176,10 +179,10 @@ fn write_answers(answered: anyhow::Result<(Log, Log, Log)>, log: &mut Log) -> an
 
 fn hand_over<'x, J: Naming, R>(
     rt: &R,
-    asked: &Asked<'_>,
+    asked: &PlayOptions<'_>,
     opening: Opening<'x>,
     gate: &'x Meeting,
-    log: &mut Log,
+    log: &mut PlayLog,
 ) -> anyhow::Result<()>
 where
     R: AllocGlobal + Env + Threads + Wait + Sync,

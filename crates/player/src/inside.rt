@@ -12,7 +12,7 @@ ghost use Rattle.model.specs.Settle.{active, best, tips};
 ghost use Rattle.activate.specs.CoreState.{Follows};
 ghost use Rattle.view.specs.Origin.{origin};
 
-use crate::log::Log;
+use crate::log::PlayLog;
 use activate::Core;
 use anyhow::Context;
 use crossbeam_utils::rule::Outcome;
@@ -24,7 +24,7 @@ use std::sync::atomic::{AtomicBool, AtomicU64};
 use std::sync::{Arc, Wait};
 use std::thread::{Threads, spawn, yield_now};
 use view::{
-    ChainInfo, Note, Tips, View, ViewReader, ViewWriter, another_reader, enter, open_writer,
+    ChainInfo, SeenHistory, Tips, View, ViewReader, ViewWriter, another_reader, enter, open_writer,
 };
 use wire::Memory;
 
@@ -36,12 +36,12 @@ const OTHERS: u32 = 1_000;
 
 /// What the threads tell each other.
 #[derive(Drop)]
-struct Told {
+struct Signals {
     is_inside: AtomicBool,
     published: AtomicU64,
 }
 
-impl Told {
+impl Signals {
     /// Waits until the reader is inside: whether it came.
     fn wait_for_the_reader(&self) -> bool {
         for _ in 0..MANY {
@@ -91,7 +91,7 @@ fn open_views<J: Naming>(
     alloc: Global,
     params: Params,
     table: Arc<Table>,
-    note: Note,
+    note: SeenHistory,
 ) -> Result<ViewWriter<J>, Memory>
     requires empty { note.entries ≡ [] }
     requires of { origin note.book params (arc_value table) 1 ≡ J.origin }
@@ -137,7 +137,7 @@ fn publish_again<J: Naming, R: Wait>(rt: &R, writer: ViewWriter<J>) -> Option<Vi
 }
 
 /// Publishes twice, as soon as the reader is inside, and lets the views go.
-fn publish_twice<J: Naming, R: Wait>(rt: &R, writer: ViewWriter<J>, told: &Told) -> bool
+fn publish_twice<J: Naming, R: Wait>(rt: &R, writer: ViewWriter<J>, told: &Signals) -> bool
     requires { drop writer.behind writer.log.items ≡ [] }
 {
     let has_come = told.wait_for_the_reader();
@@ -154,7 +154,11 @@ fn publish_twice<J: Naming, R: Wait>(rt: &R, writer: ViewWriter<J>, told: &Told)
 }
 
 /// Enters, and leaves when another reader has come and gone many times: how often was published meanwhile.
-fn stay_inside<J: Naming>(first: ViewReader<J>, second: ViewReader<J>, told: &Told) -> Option<u64> {
+fn stay_inside<J: Naming>(
+    first: ViewReader<J>,
+    second: ViewReader<J>,
+    told: &Signals,
+) -> Option<u64> {
     let inside = enter(first).ok()?;
     told.is_inside.store(true, SeqCst);
     let has_come = told.wait_for_the_writer();
@@ -178,12 +182,12 @@ fn come_and_go<J: Naming>(reader: ViewReader<J>) -> u32 {
 }
 
 /// Publishes twice while a reader stays inside: how many publications ended meanwhile, and how many did in all.
-pub fn play_inside<R>(rt: &R, log: &mut Log) -> anyhow::Result<()>
+pub fn play_inside<R>(rt: &R, log: &mut PlayLog) -> anyhow::Result<()>
 where
     R: AllocGlobal + Threads + Wait + Sync,
 {
     let table = Arc::new(rt.alloc(), Table::new(rt.alloc()))?;
-    let (_counter, note) = Note::open();
+    let (_counter, note) = SeenHistory::open();
     stay_and_publish::<Brand, R>(rt, Params::regtest(), table, note, log)
 }
 
@@ -191,8 +195,8 @@ fn stay_and_publish<J: Naming + 'static, R>(
     rt: &R,
     params: Params,
     table: Arc<Table>,
-    note: Note,
-    log: &mut Log,
+    note: SeenHistory,
+    log: &mut PlayLog,
 ) -> anyhow::Result<()>
 where
     R: AllocGlobal + Threads + Wait + Sync,
@@ -209,8 +213,8 @@ where
 }
 
 /// What two threads tell each other, for each of them.
-fn told_twice(alloc: Global) -> Result<(Arc<Told>, Arc<Told>), AllocError> {
-    let told = Told {
+fn told_twice(alloc: Global) -> Result<(Arc<Signals>, Arc<Signals>), AllocError> {
+    let told = Signals {
         is_inside: AtomicBool::new(false),
         published: AtomicU64::new(0),
     };
@@ -223,8 +227,8 @@ fn told_twice(alloc: Global) -> Result<(Arc<Told>, Arc<Told>), AllocError> {
 fn publish_beside<J: Naming + 'static, R>(
     rt: &R,
     writer: ViewWriter<J>,
-    told: &Told,
-    theirs: Arc<Told>,
+    told: &Signals,
+    theirs: Arc<Signals>,
 ) -> anyhow::Result<Option<u64>>
 where
     R: AllocGlobal + Threads + Wait + Sync,

@@ -9,7 +9,7 @@ use wire::Memory;
 
 /// What is played, and how.
 #[derive(Clone, Copy)]
-pub struct Asked<'a> {
+pub struct PlayOptions<'a> {
     pub options: &'a Options<'a>,
     pub params: Params,
     pub definitions: &'a Definitions,
@@ -18,7 +18,7 @@ pub struct Asked<'a> {
     pub closes: bool,
 }
 
-impl<'a> Asked<'a> {
+impl<'a> PlayOptions<'a> {
     /// The calls of the client of this number.
     pub fn calls(&self, number: usize) -> &'a [Call<'a, 'a>] {
         match self.clients.get(number) {
@@ -36,16 +36,16 @@ impl<'a> Asked<'a> {
 
 /// The lines of a play.
 #[derive(Drop)]
-pub struct Log {
+pub struct PlayLog {
     /// A line for each answer.
     pub text: String,
     /// A line for each call in which memory was refused.
     pub refusals: String,
 }
 
-impl Log {
-    pub fn new(alloc: Global) -> Log {
-        Log {
+impl PlayLog {
+    pub fn new(alloc: Global) -> PlayLog {
+        PlayLog {
             text: String::new(alloc),
             refusals: String::new(alloc),
         }
@@ -75,7 +75,7 @@ impl Log {
     }
 
     /// Adds what a client was answered.
-    pub fn client(&mut self, name: &str, answers: &Log) -> Result<(), Memory> {
+    pub fn client(&mut self, name: &str, answers: &PlayLog) -> Result<(), Memory> {
         writeln!(self.text, "client {name}")?;
         self.text.push_str(answers.text.as_str())?;
         self.refusals.push_str(answers.refusals.as_str())?;

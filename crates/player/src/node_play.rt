@@ -3,9 +3,9 @@
 ghost use Rattle.std.specs.Prelude.{◌≡◌};
 
 use crate::allocations::{begin, end};
-use crate::at_once::{Place, ask_at_once, places_of};
-use crate::board::Board;
-use crate::log::{Asked, Log};
+use crate::at_once::{SeatAnswer, ask_at_once, places_of};
+use crate::board::RingBoard;
+use crate::log::{PlayLog, PlayOptions};
 use crate::round::{Round, ask_in_turn};
 use crate::seat_calls::{MOST_TRIES, ask_again};
 use anyhow::bail;
@@ -21,7 +21,12 @@ use std::thread::Threads;
 use wire::Memory;
 
 /// Plays the list on a new node, which is opened as often as memory is refused.
-pub fn play_node<R>(rt: &R, asked: &Asked<'_>, gate: &Meeting, log: &mut Log) -> anyhow::Result<()>
+pub fn play_node<R>(
+    rt: &R,
+    asked: &PlayOptions<'_>,
+    gate: &Meeting,
+    log: &mut PlayLog,
+) -> anyhow::Result<()>
 where
     R: AllocGlobal + Env + Threads + Wait + Sync,
 {
@@ -43,10 +48,10 @@ where
 /// Opens a node and plays the list on it: whether memory sufficed to open it.
 fn play_opening<J: Naming, R>(
     rt: &R,
-    asked: &Asked<'_>,
+    asked: &PlayOptions<'_>,
     opening: Opening<'_>,
     gate: &Meeting,
-    log: &mut Log,
+    log: &mut PlayLog,
 ) -> anyhow::Result<bool>
 where
     R: AllocGlobal + Env + Threads + Wait + Sync,
@@ -75,11 +80,11 @@ where
 /// Makes the calls, ends the node and writes its history. From the opening of a node to its end nothing returns early.
 fn play_calls<J: Naming, R>(
     rt: &R,
-    asked: &Asked<'_>,
+    asked: &PlayOptions<'_>,
     node: Node<'_, J>,
     seats: Vec<Seat<'_, J>>,
     gate: &Meeting,
-    log: &mut Log,
+    log: &mut PlayLog,
 ) -> anyhow::Result<()>
 where
     R: AllocGlobal + Env + Threads + Wait + Sync,
@@ -94,10 +99,10 @@ where
 /// Writes a history, where there was memory for all before it.
 fn write_end(
     alloc: Global,
-    asked: &Asked<'_>,
+    asked: &PlayOptions<'_>,
     played: Result<(), Memory>,
     ended: Result<Option<Vec<Entry>>, Memory>,
-    log: &mut Log,
+    log: &mut PlayLog,
 ) -> anyhow::Result<()> {
     played?;
     match ended? {
@@ -109,11 +114,11 @@ fn write_end(
 /// Makes all calls: the seats come back.
 fn ask_clients<'t, J: Naming, R>(
     rt: &R,
-    asked: &Asked<'_>,
+    asked: &PlayOptions<'_>,
     node: &Node<'_, J>,
     seats: Vec<Seat<'t, J>>,
     gate: &Meeting,
-    log: &mut Log,
+    log: &mut PlayLog,
     back: &mut Vec<Seat<'t, J>>,
 ) -> Result<(), Memory>
 where
@@ -130,11 +135,11 @@ where
 /// Makes the other clients' calls at a seat each, or in a ring: the seats with what they answered.
 fn ask_others<'t, J: Naming, R>(
     rt: &R,
-    asked: &Asked<'_>,
+    asked: &PlayOptions<'_>,
     node: &Node<'_, J>,
     seats: Vec<Seat<'t, J>>,
     gate: &Meeting,
-) -> Result<Vec<Place<'t, J>>, Memory>
+) -> Result<Vec<SeatAnswer<'t, J>>, Memory>
 where
     R: AllocGlobal + Env + Threads + Wait + Sync,
 {
@@ -144,7 +149,7 @@ where
     } else {
         0
     };
-    let board = Board::new(alloc, seats.as_slice(), count)?;
+    let board = RingBoard::new(alloc, seats.as_slice(), count)?;
     let mut places = places_of(alloc, seats)?;
     ask_at_once(rt, asked, node, places.as_mut_slice(), gate, &board);
     Ok(places)
@@ -153,13 +158,13 @@ where
 /// Takes the seat of this number back, and writes what it answered.
 fn take_back<'t, J: Naming>(
     alloc: Global,
-    asked: &Asked<'_>,
+    asked: &PlayOptions<'_>,
     number: usize,
-    place: Place<'t, J>,
-    log: &mut Log,
+    place: SeatAnswer<'t, J>,
+    log: &mut PlayLog,
     back: &mut Vec<Seat<'t, J>>,
 ) -> Result<(), Memory> {
-    let Place {
+    let SeatAnswer {
         seat,
         log: answers,
         written,
@@ -172,10 +177,10 @@ fn take_back<'t, J: Naming>(
 /// Makes the first client's calls at all seats in turn: the seats.
 fn ask_first<'t, J: Naming, R>(
     rt: &R,
-    asked: &Asked<'_>,
+    asked: &PlayOptions<'_>,
     node: &Node<'_, J>,
     seats: Vec<Seat<'t, J>>,
-    log: &mut Log,
+    log: &mut PlayLog,
 ) -> Result<Vec<Seat<'t, J>>, Memory>
 where
     R: AllocGlobal + Env + Threads + Wait + Sync,
@@ -183,7 +188,7 @@ where
     let round = Round {
         seats,
         note: None,
-        log: Log::new(rt.alloc()),
+        log: PlayLog::new(rt.alloc()),
     };
     let (round, written) = ask_in_turn(rt, asked, node, round, asked.calls(0));
     let Round {
@@ -201,10 +206,10 @@ where
 /// Writes what the seat of this number answered: as its own in a ring, else as its client's.
 fn write_place(
     alloc: Global,
-    asked: &Asked<'_>,
+    asked: &PlayOptions<'_>,
     number: usize,
-    answers: &Log,
-    log: &mut Log,
+    answers: &PlayLog,
+    log: &mut PlayLog,
 ) -> Result<(), Memory> {
     if asked.options.is("ring") {
         let name = format!(in alloc; "seat {number}")?;
@@ -219,10 +224,10 @@ fn write_place(
 /// The first two seats meet, where that is asked for: how much both have seen before and behind, and what each then reads.
 fn meet_first_two<J: Naming, R>(
     rt: &R,
-    asked: &Asked<'_>,
+    asked: &PlayOptions<'_>,
     node: &Node<'_, J>,
     seats: &mut [Seat<'_, J>],
-    log: &mut Log,
+    log: &mut PlayLog,
 ) -> Result<(), Memory>
 where
     R: AllocGlobal + Env + Threads + Wait + Sync,
@@ -257,10 +262,10 @@ where
 /// the history. If it is refused, that is written.
 fn end_node<J: Naming, R>(
     rt: &R,
-    asked: &Asked<'_>,
+    asked: &PlayOptions<'_>,
     node: Node<'_, J>,
     mut seats: Vec<Seat<'_, J>>,
-    log: &mut Log,
+    log: &mut PlayLog,
 ) -> Result<Option<Vec<Entry>>, Memory>
 where
     R: AllocGlobal + Env + Wait,
@@ -291,7 +296,7 @@ fn write_journal(
     alloc: Global,
     definitions: &Definitions,
     history: &[Entry],
-    log: &mut Log,
+    log: &mut PlayLog,
 ) -> anyhow::Result<()> {
     writeln!(log.text, "journal")?;
     for (place, entry) in history.iter().enumerate() {

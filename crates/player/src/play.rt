@@ -4,7 +4,7 @@ use crate::allocations::refuse;
 use crate::chain_play::{play_chain, play_definition, play_run};
 use crate::handover::play_handover;
 use crate::inside::play_inside;
-use crate::log::{Asked, Log};
+use crate::log::{PlayLog, PlayOptions};
 use crate::node_play::play_node;
 use anyhow::{Context, bail};
 use doors::{HEIGHTS, Meeting, Options};
@@ -110,7 +110,7 @@ fn play_clients<R>(
 where
     R: AllocGlobal + Env + Print + Threads + Wait + Sync,
 {
-    let asked = Asked {
+    let asked = PlayOptions {
         options,
         params: read_heights(heights_of(options)).context("heights")?,
         definitions,
@@ -120,13 +120,18 @@ where
     if options.number("first", 0) > 0 {
         return play_refused(rt, &asked, gate);
     }
-    let mut log = Log::new(rt.alloc());
+    let mut log = PlayLog::new(rt.alloc());
     play_once(rt, &asked, gate, &mut log)?;
     Ok(print!(rt; "{}", log.text)?)
 }
 
 /// Plays at a door.
-fn play_once<R>(rt: &R, asked: &Asked<'_>, gate: &Meeting, log: &mut Log) -> anyhow::Result<()>
+fn play_once<R>(
+    rt: &R,
+    asked: &PlayOptions<'_>,
+    gate: &Meeting,
+    log: &mut PlayLog,
+) -> anyhow::Result<()>
 where
     R: AllocGlobal + Env + Threads + Wait + Sync,
 {
@@ -144,7 +149,7 @@ where
 
 /// Plays in turn, in each of which another allocation is the first that is refused, until none is. The lines of a play are
 /// printed where they differ from the play before.
-fn play_refused<R>(rt: &R, asked: &Asked<'_>, gate: &Meeting) -> anyhow::Result<()>
+fn play_refused<R>(rt: &R, asked: &PlayOptions<'_>, gate: &Meeting) -> anyhow::Result<()>
 where
     R: AllocGlobal + Env + Print + Threads + Wait + Sync,
 {
@@ -155,13 +160,13 @@ where
         if !refuse(rt, rt.alloc(), number, options.number("refused", 1))? {
             bail!("no library counts allocations");
         }
-        let asked = Asked {
+        let asked = PlayOptions {
             closes: number % 2 == 0,
             ..*asked
         };
-        let mut log = Log::new(rt.alloc());
+        let mut log = PlayLog::new(rt.alloc());
         play_once(rt, &asked, gate, &mut log)?;
-        let Log { text, refusals } = log;
+        let PlayLog { text, refusals } = log;
         print!(rt; "play {number}\n{refusals}")?;
         if text.as_str() != last.as_str() {
             print!(rt; "{text}")?;

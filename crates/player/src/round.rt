@@ -1,6 +1,6 @@
 //! Seats of one node that are asked in turn, each of which is told before what the one before has seen.
 
-use crate::log::{Asked, Log};
+use crate::log::{PlayLog, PlayOptions};
 use crate::seat_calls::ask_again;
 use node::{Naming, Node, Note, Seat};
 use scenario::{Call, Payload, Request, Words};
@@ -15,7 +15,7 @@ use wire::Memory;
 pub struct Round<'t, J: Naming> {
     pub seats: Vec<Seat<'t, J>>,
     pub note: Option<Note<J>>,
-    pub log: Log,
+    pub log: PlayLog,
 }
 
 impl<'t, J: Naming> Round<'t, J> {
@@ -24,7 +24,7 @@ impl<'t, J: Naming> Round<'t, J> {
     fn ask<R>(
         &mut self,
         rt: &R,
-        asked: &Asked<'_>,
+        asked: &PlayOptions<'_>,
         node: &Node<'_, J>,
         place: usize,
         call: &Call<'_, '_>,
@@ -57,17 +57,17 @@ impl<'t, J: Naming> Round<'t, J> {
 }
 
 /// A round, and whether there was memory to write what was answered.
-type Turned<'t, J> = (Round<'t, J>, Result<(), Memory>);
+type RoundOutcome<'t, J> = (Round<'t, J>, Result<(), Memory>);
 
 /// The seat whose turn it is answers.
 fn ask_here<'t, J: Naming, R>(
     rt: &R,
-    asked: &Asked<'_>,
+    asked: &PlayOptions<'_>,
     node: &Node<'_, J>,
     mut round: Round<'t, J>,
     place: usize,
     call: &Call<'_, '_>,
-) -> Turned<'t, J>
+) -> RoundOutcome<'t, J>
 where
     R: AllocGlobal + Env + Threads + Wait + Sync,
 {
@@ -78,12 +78,12 @@ where
 /// It answers on another thread, to which the seats and the note are moved.
 fn ask_elsewhere<'t, J: Naming, R>(
     rt: &R,
-    asked: &Asked<'_>,
+    asked: &PlayOptions<'_>,
     node: &Node<'_, J>,
     round: Round<'t, J>,
     place: usize,
     call: &Call<'_, '_>,
-) -> Turned<'t, J>
+) -> RoundOutcome<'t, J>
 where
     R: AllocGlobal + Env + Threads + Wait + Sync,
 {
@@ -95,11 +95,11 @@ where
 /// Makes these calls at all seats in turn.
 pub fn ask_in_turn<'t, J: Naming, R>(
     rt: &R,
-    asked: &Asked<'_>,
+    asked: &PlayOptions<'_>,
     node: &Node<'_, J>,
     mut round: Round<'t, J>,
     calls: &[Call<'_, '_>],
-) -> Turned<'t, J>
+) -> RoundOutcome<'t, J>
 where
     R: AllocGlobal + Env + Threads + Wait + Sync,
 {

@@ -1,8 +1,8 @@
 //! The calls of a node's seat.
 
 use crate::allocations::{begin, end};
-use crate::answer::Answer;
-use crate::log::Log;
+use crate::answer::CommandAnswer;
+use crate::log::PlayLog;
 use node::{Fault, KeptTriple, MarkReply, Naming, Node, Reply, Seat, Stamped};
 use scenario::{Call, Definitions, Request};
 use std::rt::Env;
@@ -20,7 +20,7 @@ fn ask<'d, J: Naming, R>(
     node: &Node<'_, J>,
     seat: &mut Seat<'_, J>,
     request: &Request<'_>,
-) -> Result<Stamped<Answer<'d>>, Fault>
+) -> Result<Stamped<CommandAnswer<'d>>, Fault>
 where
     R: AllocGlobal + Threads + Wait + Sync,
 {
@@ -28,31 +28,31 @@ where
     Ok(match request {
         Request::Submit(bytes, now) => {
             let Stamped { at, value } = seat.submit(rt, node, bytes.as_slice(), *now)?;
-            stamped(at, Answer::Reply(Reply::Submit(value)))
+            stamped(at, CommandAnswer::Reply(Reply::Submit(value)))
         }
         Request::Invalidate(id) => marked(seat.invalidate(rt, node, *id)?),
         Request::Reconsider(id) => marked(seat.reconsider(rt, node, *id)?),
         Request::Precious(id) => marked(seat.precious(rt, node, *id)?),
         Request::Best => {
             let best = seat.getbestblockhash()?;
-            stamped(best.at, Answer::Best(definitions.label(best.value)))
+            stamped(best.at, CommandAnswer::Best(definitions.label(best.value)))
         }
         Request::Tips => {
             let Stamped { at, value } = seat.getchaintips(alloc)?;
-            stamped(at, Answer::Tips(definitions, value))
+            stamped(at, CommandAnswer::Tips(definitions, value))
         }
         Request::Output(outpoint) => {
             let Stamped { at, value } = seat.gettxout(alloc, outpoint)?;
-            stamped(at, Answer::Output(value))
+            stamped(at, CommandAnswer::Output(value))
         }
     })
 }
 
-fn marked<'d>(reply: Stamped<MarkReply>) -> Stamped<Answer<'d>> {
-    stamped(reply.at, Answer::Reply(Reply::Mark(reply.value)))
+fn marked<'d>(reply: Stamped<MarkReply>) -> Stamped<CommandAnswer<'d>> {
+    stamped(reply.at, CommandAnswer::Reply(Reply::Mark(reply.value)))
 }
 
-fn stamped(at: u64, value: Answer<'_>) -> Stamped<Answer<'_>> {
+fn stamped(at: u64, value: CommandAnswer<'_>) -> Stamped<CommandAnswer<'_>> {
     Stamped { at, value }
 }
 
@@ -70,7 +70,7 @@ fn name_of(request: &Request<'_>) -> &'static str {
 }
 
 /// What a call is answered, and how many allocations were refused in it.
-type Counted<'d> = (Result<Stamped<Answer<'d>>, Fault>, u64);
+type Counted<'d> = (Result<Stamped<CommandAnswer<'d>>, Fault>, u64);
 
 /// Makes a call, in which allocations count where that is asked for.
 fn ask_counted<'d, J: Naming, R>(
@@ -91,7 +91,7 @@ where
 
 /// How a call ended.
 #[derive(Clone, Copy)]
-enum Ended {
+enum CallEnd {
     /// With an answer of this stamp.
     At(u64),
     /// By a fault.
@@ -104,23 +104,23 @@ enum Ended {
 fn write_answer(
     call: &Call<'_, '_>,
     (answered, refused): Counted<'_>,
-    log: &mut Log,
-) -> Result<Ended, Memory> {
+    log: &mut PlayLog,
+) -> Result<CallEnd, Memory> {
     let name = name_of(&call.request);
     Ok(match answered {
         Ok(Stamped { at, value }) => {
             log.refused(refused, name, "answered")?;
             log.answer(&call.words, format_args!("{value} @{at}"))?;
-            Ended::At(at)
+            CallEnd::At(at)
         }
         Err(Fault::Memory) if refused > 0 => {
             log.refused(refused, name, "memory")?;
-            Ended::Memory
+            CallEnd::Memory
         }
         Err(fault) => {
             log.refused(refused, name, fault)?;
             log.answer(&call.words, fault)?;
-            Ended::Fault
+            CallEnd::Fault
         }
     })
 }
@@ -159,7 +159,7 @@ pub fn ask_again<J: Naming, R>(
     seat: &mut Seat<'_, J>,
     call: &Call<'_, '_>,
     is_counted: bool,
-    log: &mut Log,
+    log: &mut PlayLog,
 ) -> Result<Option<u64>, Memory>
 where
     R: AllocGlobal + Env + Threads + Wait + Sync,
@@ -172,9 +172,9 @@ where
             }
         }
         match write_answer(call, answered, log)? {
-            Ended::At(at) => return Ok(Some(at)),
-            Ended::Fault => break,
-            Ended::Memory => {}
+            CallEnd::At(at) => return Ok(Some(at)),
+            CallEnd::Fault => break,
+            CallEnd::Memory => {}
         }
     }
     Ok(None)

@@ -1,7 +1,7 @@
 //! What a chainstate shows, as lines.
 
-use crate::answer::Answer;
-use crate::chainstates::Look;
+use crate::answer::CommandAnswer;
+use crate::chainstates::ChainLook;
 use coins::{Base, Coin, CoinMap};
 use node::UnspentOutput;
 use scenario::{Call, Definitions, Request};
@@ -11,7 +11,7 @@ use wire::Memory;
 
 /// The lines of a state.
 #[derive(Drop, PartialEq)]
-pub struct State {
+pub struct StateLines {
     /// Height, how many blocks' undo is kept, best block and tips.
     pub head: String,
     /// The coins at the outputs that are asked.
@@ -44,9 +44,9 @@ pub fn coins_text(
 pub fn state_of(
     alloc: Global,
     definitions: &Definitions,
-    look: &Look<'_>,
+    look: &ChainLook<'_>,
     outputs: &[Call<'_, '_>],
-) -> Result<State, Memory> {
+) -> Result<StateLines, Memory> {
     let mut head = format!(in alloc; "height = {}\nundo = {}\n", look.height, look.undo_kept)?;
     for (name, request) in [("best", Request::Best), ("tips", Request::Tips)] {
         if let Some(answer) = read(alloc, definitions, look, &request)? {
@@ -54,28 +54,28 @@ pub fn state_of(
         }
     }
     let coins = coins_text(alloc, look.coins, outputs)?;
-    Ok(State { head, coins })
+    Ok(StateLines { head, coins })
 }
 
 /// What is read of a chainstate by a request that takes no step.
 pub fn read<'d>(
     alloc: Global,
     definitions: &'d Definitions,
-    look: &Look<'_>,
+    look: &ChainLook<'_>,
     request: &Request<'_>,
-) -> Result<Option<Answer<'d>>, Memory> {
+) -> Result<Option<CommandAnswer<'d>>, Memory> {
     Ok(match request {
-        Request::Best => Some(Answer::Best(definitions.label(look.best))),
+        Request::Best => Some(CommandAnswer::Best(definitions.label(look.best))),
         Request::Tips => {
             let tips = Vec::from_slice(alloc, look.tips.as_slice())?;
-            Some(Answer::Tips(definitions, tips))
+            Some(CommandAnswer::Tips(definitions, tips))
         }
         Request::Output(at) => {
             let output = match look.coins.get(at) {
                 Some(coin) => Some(output_of(alloc, coin, look.height)?),
                 None => None,
             };
-            Some(Answer::Output(output))
+            Some(CommandAnswer::Output(output))
         }
         _ => None,
     })

@@ -1,6 +1,6 @@
 //! The answers of a client's seat.
 
-use crate::told::{Block, Tips, Told};
+use crate::told::{NamedBlock, NamedTips, SeatReply};
 use hash::Id;
 use node::{Bytes, Fault, MarkReply, Naming, Node, Seat, Stamped, Tip, UnspentOutput};
 use scenario::{Definitions, Request};
@@ -10,10 +10,10 @@ use std::thread::Threads;
 
 /// A command and its answer, as they are printed.
 #[derive(Drop)]
-pub struct Answer<'d> {
+pub struct AnsweredCommand<'d> {
     pub command: String,
     /// Faults have no stamp.
-    pub outcome: Result<Stamped<Told<'d>>, Fault>,
+    pub outcome: Result<Stamped<SeatReply<'d>>, Fault>,
     pub is_submission: bool,
 }
 
@@ -24,7 +24,7 @@ pub fn asked<'d, J: Naming, R>(
     request: &Request<'_>,
     node: &Node<'_, J>,
     seat: &mut Seat<'_, J>,
-) -> Result<Stamped<Told<'d>>, Fault>
+) -> Result<Stamped<SeatReply<'d>>, Fault>
 where
     R: AllocGlobal + Threads + Wait + Sync,
 {
@@ -47,12 +47,12 @@ pub fn submitted<'d, J: Naming, R>(
     seat: &mut Seat<'_, J>,
     bytes: &[u8],
     now: u64,
-) -> Result<Stamped<Told<'d>>, Fault>
+) -> Result<Stamped<SeatReply<'d>>, Fault>
 where
     R: Threads + Wait + Sync,
 {
     let reply = seat.submit(rt, node, bytes, now)?;
-    Ok(stamped(reply.at, Told::Submit(reply.value)))
+    Ok(stamped(reply.at, SeatReply::Submit(reply.value)))
 }
 
 /// The same for shared bytes.
@@ -62,47 +62,47 @@ pub fn submitted_bytes<'d, J: Naming, R>(
     seat: &mut Seat<'_, J>,
     bytes: Bytes,
     now: u64,
-) -> Result<Stamped<Told<'d>>, Fault>
+) -> Result<Stamped<SeatReply<'d>>, Fault>
 where
     R: Threads + Wait + Sync,
 {
     let reply = seat.submit_bytes(rt, node, bytes, now)?;
-    Ok(stamped(reply.at, Told::Submit(reply.value)))
+    Ok(stamped(reply.at, SeatReply::Submit(reply.value)))
 }
 
-fn marked<'d>(reply: Result<Stamped<MarkReply>, Fault>) -> Result<Stamped<Told<'d>>, Fault> {
+fn marked<'d>(reply: Result<Stamped<MarkReply>, Fault>) -> Result<Stamped<SeatReply<'d>>, Fault> {
     let Stamped { at, value } = reply?;
-    Ok(stamped(at, Told::Mark(value)))
+    Ok(stamped(at, SeatReply::Mark(value)))
 }
 
 fn best<'d>(
     definitions: &'d Definitions,
     best: Result<Stamped<Id>, Fault>,
-) -> Result<Stamped<Told<'d>>, Fault> {
+) -> Result<Stamped<SeatReply<'d>>, Fault> {
     let Stamped { at, value } = best?;
-    Ok(stamped(at, Told::Best(Block::new(definitions, value))))
+    Ok(stamped(at, SeatReply::Best(NamedBlock::new(definitions, value))))
 }
 
 fn tips<'d>(
     definitions: &'d Definitions,
     tips: Result<Stamped<Vec<Tip>>, Fault>,
-) -> Result<Stamped<Told<'d>>, Fault> {
+) -> Result<Stamped<SeatReply<'d>>, Fault> {
     let Stamped { at, value: list } = tips?;
-    Ok(stamped(at, Told::Tips(Tips { definitions, list })))
+    Ok(stamped(at, SeatReply::Tips(NamedTips { definitions, list })))
 }
 
 fn output<'d>(
     output: Result<Stamped<Option<UnspentOutput>>, Fault>,
-) -> Result<Stamped<Told<'d>>, Fault> {
+) -> Result<Stamped<SeatReply<'d>>, Fault> {
     let Stamped { at, value } = output?;
-    Ok(stamped(at, Told::Output(value)))
+    Ok(stamped(at, SeatReply::Output(value)))
 }
 
-fn stamped(at: u64, value: Told<'_>) -> Stamped<Told<'_>> {
+fn stamped(at: u64, value: SeatReply<'_>) -> Stamped<SeatReply<'_>> {
     Stamped { at, value }
 }
 
-impl fmt::Display for Answer<'_> {
+impl fmt::Display for AnsweredCommand<'_> {
     fn fmt<W: fmt::Write>(&self, f: &mut fmt::Formatter<W>) -> fmt::Result {
         match &self.outcome {
             Ok(told) => writeln!(f, "{} = {} @{}", self.command, told.value, told.at),

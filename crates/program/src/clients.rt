@@ -1,9 +1,9 @@
 //! What clients ask of their seats, one after the other.
 
-use crate::answer::{Answer, asked, submitted_bytes};
+use crate::answer::{AnsweredCommand, asked, submitted_bytes};
 use block::BlkFault;
 use console::ahead::{NextBlock, RecordsAhead};
-use console::fault::{Fault, Stop};
+use console::fault::{BlkStop, RunFault};
 use console::options::STANDARD;
 use console::replay::BLK_MOMENT;
 use node::{Naming, Node, Seat};
@@ -15,58 +15,58 @@ use std::thread::Threads;
 
 /// Why a client ends before its commands do.
 #[derive(Clone, Copy)]
-pub enum Ended {
+pub enum ClientEnd {
     /// There was no memory for an answer.
     Memory,
     /// The output takes no more.
     CannotWrite(Error),
     /// The blk file isn't read on from this offset.
-    BlkStopped(u64, Stop),
+    BlkStopped(u64, BlkStop),
     /// The reader of the blk file has no more to give.
     Closed,
 }
 
-impl From<AllocError> for Ended {
-    fn from(_error: AllocError) -> Ended {
-        Ended::Memory
+impl From<AllocError> for ClientEnd {
+    fn from(_error: AllocError) -> ClientEnd {
+        ClientEnd::Memory
     }
 }
 
-impl<T: Drop> From<AllocFailed<T>> for Ended {
-    fn from(_error: AllocFailed<T>) -> Ended {
-        Ended::Memory
+impl<T: Drop> From<AllocFailed<T>> for ClientEnd {
+    fn from(_error: AllocFailed<T>) -> ClientEnd {
+        ClientEnd::Memory
     }
 }
 
-impl From<BlkFault> for Ended {
-    fn from(fault: BlkFault) -> Ended {
+impl From<BlkFault> for ClientEnd {
+    fn from(fault: BlkFault) -> ClientEnd {
         match fault {
-            BlkFault::Foreign(offset) => Ended::BlkStopped(offset, Stop::Foreign),
-            BlkFault::Cut(offset) => Ended::BlkStopped(offset, Stop::Cut),
-            BlkFault::TooLong(offset) => Ended::BlkStopped(offset, Stop::TooLong),
-            BlkFault::Memory => Ended::Memory,
-            BlkFault::Read | BlkFault::Stopped => Ended::Closed,
+            BlkFault::Foreign(offset) => ClientEnd::BlkStopped(offset, BlkStop::Foreign),
+            BlkFault::Cut(offset) => ClientEnd::BlkStopped(offset, BlkStop::Cut),
+            BlkFault::TooLong(offset) => ClientEnd::BlkStopped(offset, BlkStop::TooLong),
+            BlkFault::Memory => ClientEnd::Memory,
+            BlkFault::Read | BlkFault::Stopped => ClientEnd::Closed,
         }
     }
 }
 
-impl From<Ended> for Fault<'_> {
-    fn from(ended: Ended) -> Self {
+impl From<ClientEnd> for RunFault<'_> {
+    fn from(ended: ClientEnd) -> Self {
         match ended {
-            Ended::Memory => Fault::Memory,
-            Ended::CannotWrite(error) => Fault::CannotWrite(STANDARD, error),
-            Ended::BlkStopped(offset, stop) => Fault::BlkStopped(offset, stop),
-            Ended::Closed => Fault::Closed,
+            ClientEnd::Memory => RunFault::Memory,
+            ClientEnd::CannotWrite(error) => RunFault::CannotWrite(STANDARD, error),
+            ClientEnd::BlkStopped(offset, stop) => RunFault::BlkStopped(offset, stop),
+            ClientEnd::Closed => RunFault::Closed,
         }
     }
 }
 
 /// How a client ends by a fault of the output.
-pub fn ended_by(fault: &Fault<'_>) -> Ended {
+pub fn ended_by(fault: &RunFault<'_>) -> ClientEnd {
     match fault {
-        Fault::CannotWrite(_, error) => Ended::CannotWrite(*error),
-        Fault::Memory => Ended::Memory,
-        _ => Ended::Closed,
+        RunFault::CannotWrite(_, error) => ClientEnd::CannotWrite(*error),
+        RunFault::Memory => ClientEnd::Memory,
+        _ => ClientEnd::Closed,
     }
 }
 
@@ -77,12 +77,12 @@ pub fn answer<'d, J: Naming, R>(
     node: &Node<'_, J>,
     call: &Call<'_, '_>,
     seat: &mut Seat<'_, J>,
-) -> Result<Answer<'d>, Ended>
+) -> Result<AnsweredCommand<'d>, ClientEnd>
 where
     R: AllocGlobal + Threads + Wait + Sync,
 {
     let command = call.words.to_string(rt.alloc())?;
-    Ok(Answer {
+    Ok(AnsweredCommand {
         command,
         outcome: asked(rt, definitions, &call.request, node, seat),
         is_submission: matches!(call.request, Request::Submit(..)),
@@ -96,7 +96,7 @@ pub fn answer_record<'d, J: Naming, R>(
     records: &mut RecordsAhead<'_>,
     seat: &mut Seat<'_, J>,
     number: u64,
-) -> Result<Option<Answer<'d>>, Ended>
+) -> Result<Option<AnsweredCommand<'d>>, ClientEnd>
 where
     R: AllocGlobal + Threads + Wait + Sync,
 {
@@ -107,7 +107,7 @@ where
         seat.hand_in(submission);
     }
     let command = format!(in rt.alloc(); "record {number}")?;
-    Ok(Some(Answer {
+    Ok(Some(AnsweredCommand {
         command,
         outcome: submitted_bytes(rt, node, seat, bytes, BLK_MOMENT),
         is_submission: true,

@@ -1,11 +1,11 @@
 //! The run of a scenario's clients on a node.
 
-use crate::answer::Answer;
-use crate::clients::{Ended, answer, answer_record, ended_by};
+use crate::answer::AnsweredCommand;
+use crate::clients::{ClientEnd, answer, answer_record, ended_by};
 use crate::writer::Writer;
 use block::SliceSource;
 use console::ahead::RecordsAhead;
-use console::fault::Fault;
+use console::fault::RunFault;
 use journal::Records;
 use node::{Naming, Node, Seat};
 use scenario::{BLK, Client, Definitions};
@@ -25,7 +25,7 @@ pub fn run_clients<J: Naming, R, E, O>(
     node: &Node<'_, J>,
     seats: &mut [Seat<'_, J>],
     writer: &mut Writer<'_, '_, '_, R, E, O>,
-) -> Result<(), Fault<'static>>
+) -> Result<(), RunFault<'static>>
 where
     R: AllocGlobal + Clock + Threads + Wait + Sync,
     E: Write,
@@ -51,9 +51,9 @@ where
 /// Writes the answers of the clients that ran beside the first.
 fn write_others<C: Clock, E: Write, O: Write>(
     clients: &[Client<'_, '_>],
-    desks: Vec<Desk<'_>>,
+    desks: Vec<ClientDesk<'_>>,
     writer: &mut Writer<'_, '_, '_, C, E, O>,
-) -> Result<(), Fault<'static>> {
+) -> Result<(), RunFault<'static>> {
     for (client, desk) in clients.iter().zip(desks.into_iter()) {
         writer.client(client.name)?;
         writer.answers(desk.into_answers()?.as_slice())?;
@@ -69,7 +69,7 @@ fn run_first<J: Naming, R, E, O>(
     node: &Node<'_, J>,
     seat: &mut Seat<'_, J>,
     writer: &mut Writer<'_, '_, '_, R, E, O>,
-) -> Result<(), Fault<'static>>
+) -> Result<(), RunFault<'static>>
 where
     R: AllocGlobal + Clock + Threads + Wait + Sync,
     E: Write,
@@ -85,32 +85,32 @@ where
 
 /// The answers of a client, when it has ended.
 #[derive(Drop)]
-struct Desk<'d> {
-    answers: Mutex<Result<Vec<Answer<'d>>, Ended>>,
+struct ClientDesk<'d> {
+    answers: Mutex<Result<Vec<AnsweredCommand<'d>>, ClientEnd>>,
 }
 
-fn desks<'d>(alloc: Global, count: usize) -> Result<Vec<Desk<'d>>, Fault<'static>> {
+fn desks<'d>(alloc: Global, count: usize) -> Result<Vec<ClientDesk<'d>>, RunFault<'static>> {
     let mut desks = Vec::new(alloc);
     for _ in 0..count {
-        desks.push(Desk::new(alloc))?;
+        desks.push(ClientDesk::new(alloc))?;
     }
     Ok(desks)
 }
 
-impl<'d> Desk<'d> {
-    fn new(alloc: Global) -> Desk<'d> {
-        Desk {
+impl<'d> ClientDesk<'d> {
+    fn new(alloc: Global) -> ClientDesk<'d> {
+        ClientDesk {
             answers: Mutex::new(Ok(Vec::new(alloc))),
         }
     }
 
-    fn lay<R: Wait>(&self, rt: &R, answers: Result<Vec<Answer<'d>>, Ended>) {
+    fn lay<R: Wait>(&self, rt: &R, answers: Result<Vec<AnsweredCommand<'d>>, ClientEnd>) {
         let mut guard = self.answers.lock(rt);
         *guard = answers;
     }
 
-    fn into_answers(self) -> Result<Vec<Answer<'d>>, Ended> {
-        let Desk { answers } = self;
+    fn into_answers(self) -> Result<Vec<AnsweredCommand<'d>>, ClientEnd> {
+        let ClientDesk { answers } = self;
         answers.into_inner()
     }
 }
@@ -122,7 +122,7 @@ fn run_at_once<'x, 'd: 'x, J: Naming, R>(
     clients: &'x [Client<'_, '_>],
     node: &'x Node<'_, J>,
     seats: &mut [Seat<'_, J>],
-    desks: &'x [Desk<'d>],
+    desks: &'x [ClientDesk<'d>],
 )
 where
     R: AllocGlobal + Threads + Wait + Sync,
@@ -142,7 +142,7 @@ fn collected<'d, J: Naming, R>(
     node: &Node<'_, J>,
     client: &Client<'_, '_>,
     seat: &mut Seat<'_, J>,
-) -> Result<Vec<Answer<'d>>, Ended>
+) -> Result<Vec<AnsweredCommand<'d>>, ClientEnd>
 where
     R: AllocGlobal + Threads + Wait + Sync,
 {
@@ -160,7 +160,7 @@ fn submit_all<J: Naming, R, E, O>(
     records: &mut RecordsAhead<'_>,
     seat: &mut Seat<'_, J>,
     writer: &mut Writer<'_, '_, '_, R, E, O>,
-) -> Result<(), Ended>
+) -> Result<(), ClientEnd>
 where
     R: AllocGlobal + Clock + Threads + Wait + Sync,
     E: Write,
@@ -185,7 +185,7 @@ pub fn run_records<J: Naming, R, E, O>(
     node: &Node<'_, J>,
     seat: &mut Seat<'_, J>,
     writer: &mut Writer<'_, '_, '_, R, E, O>,
-) -> Result<(), Fault<'static>>
+) -> Result<(), RunFault<'static>>
 where
     R: AllocGlobal + Clock + Threads + Wait + Sync,
     E: Write,
@@ -198,7 +198,7 @@ where
         Ok(()) => submit_all(rt, node, &mut records, seat, writer),
         Err(fault) => Err(ended_by(&fault)),
     };
-    if let Err(Ended::CannotWrite(_)) = written {
+    if let Err(ClientEnd::CannotWrite(_)) = written {
         records.read_out()?;
     }
     Ok(written?)

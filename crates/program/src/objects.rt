@@ -1,8 +1,8 @@
 //! Answers, lines of the journal, findings and faults as JSON objects, one a line.
 
-use crate::answer::Answer;
-use crate::told::{Block, Tips, Told};
-use console::fault::{Fault, Line, Reason};
+use crate::answer::AnsweredCommand;
+use crate::told::{NamedBlock, NamedTips, SeatReply};
+use console::fault::{FaultLine, FaultReason, RunFault};
 use journal::Step;
 use node::{Reply, Stamped, Tip, UnspentOutput};
 use scenario::Label;
@@ -12,7 +12,11 @@ use std::alloc::{AllocError, Global};
 
 /// An answer: its client, what was asked, the answer, and its stamp if it has one. What is more than a word is told by
 /// parts, and beside them as a text.
-pub fn answer(alloc: Global, client: &str, answer: &Answer<'_>) -> Result<String, AllocError> {
+pub fn answer(
+    alloc: Global,
+    client: &str,
+    answer: &AnsweredCommand<'_>,
+) -> Result<String, AllocError> {
     let mut object = Object::new(alloc)?;
     object.text("client", client)?;
     object.text("command", answer.command.as_str())?;
@@ -21,7 +25,11 @@ pub fn answer(alloc: Global, client: &str, answer: &Answer<'_>) -> Result<String
 }
 
 /// What was answered, and its stamp, or the fault.
-fn put_outcome(alloc: Global, object: &mut Object, answer: &Answer<'_>) -> Result<(), AllocError> {
+fn put_outcome(
+    alloc: Global,
+    object: &mut Object,
+    answer: &AnsweredCommand<'_>,
+) -> Result<(), AllocError> {
     match &answer.outcome {
         Ok(Stamped { at, value }) => {
             put_told(alloc, object, value)?;
@@ -71,19 +79,19 @@ pub fn explanation(alloc: Global, line: u64, reply: Reply) -> Result<String, All
 }
 
 /// A fault: its line, and why.
-pub fn fault(alloc: Global, fault: &Fault<'_>) -> Result<String, AllocError> {
+pub fn fault(alloc: Global, fault: &RunFault<'_>) -> Result<String, AllocError> {
     let mut object = Object::new(alloc)?;
     put_fault(alloc, &mut object, fault)?;
     into_line(object)
 }
 
-fn put_fault(alloc: Global, object: &mut Object, fault: &Fault<'_>) -> Result<(), AllocError> {
-    let line = Line(fault).to_string(alloc)?;
+fn put_fault(alloc: Global, object: &mut Object, fault: &RunFault<'_>) -> Result<(), AllocError> {
+    let line = FaultLine(fault).to_string(alloc)?;
     object.text("fault", bare(line.as_str()))?;
     if !fault.has_reason() {
         return Ok(());
     }
-    object.text("why", Reason(fault).to_string(alloc)?.as_str())
+    object.text("why", FaultReason(fault).to_string(alloc)?.as_str())
 }
 
 /// A line without the program's name and without its end.
@@ -101,19 +109,19 @@ fn into_line(object: Object) -> Result<String, AllocError> {
 }
 
 /// What a seat answered, and its text where that isn't the answer.
-fn put_told(alloc: Global, object: &mut Object, told: &Told<'_>) -> Result<(), AllocError> {
+fn put_told(alloc: Global, object: &mut Object, told: &SeatReply<'_>) -> Result<(), AllocError> {
     let text = told.to_string(alloc)?;
     match told {
-        Told::Submit(_) | Told::Mark(_) => return object.text("answer", text.as_str()),
-        Told::Best(block) => put_best(alloc, object, block)?,
-        Told::Tips(tips) => put_tips(alloc, object, tips)?,
-        Told::Output(None) => object.null("answer")?,
-        Told::Output(Some(output)) => put_output(alloc, object, output)?,
+        SeatReply::Submit(_) | SeatReply::Mark(_) => return object.text("answer", text.as_str()),
+        SeatReply::Best(block) => put_best(alloc, object, block)?,
+        SeatReply::Tips(tips) => put_tips(alloc, object, tips)?,
+        SeatReply::Output(None) => object.null("answer")?,
+        SeatReply::Output(Some(output)) => put_output(alloc, object, output)?,
     }
     object.text("text", text.as_str())
 }
 
-fn put_best(alloc: Global, object: &mut Object, block: &Block<'_>) -> Result<(), AllocError> {
+fn put_best(alloc: Global, object: &mut Object, block: &NamedBlock<'_>) -> Result<(), AllocError> {
     object.begin("answer")?;
     put_block(alloc, object, block)?;
     object.end()
@@ -130,7 +138,7 @@ fn put_output(
 }
 
 /// The members of a block.
-fn put_block(alloc: Global, object: &mut Object, block: &Block<'_>) -> Result<(), AllocError> {
+fn put_block(alloc: Global, object: &mut Object, block: &NamedBlock<'_>) -> Result<(), AllocError> {
     object.id(alloc, "hash", block.id)?;
     match block.name() {
         Some(name) => object.text("name", name),
@@ -139,10 +147,15 @@ fn put_block(alloc: Global, object: &mut Object, block: &Block<'_>) -> Result<()
 }
 
 /// A list of tips, as Bitcoin Core's `getchaintips` gives them.
-fn put_tips(alloc: Global, object: &mut Object, tips: &Tips<'_>) -> Result<(), AllocError> {
+fn put_tips(alloc: Global, object: &mut Object, tips: &NamedTips<'_>) -> Result<(), AllocError> {
     object.begin_list("answer")?;
     for tip in tips.list.as_slice() {
-        put_tip(alloc, object, &Block::new(tips.definitions, tip.id), tip)?;
+        put_tip(
+            alloc,
+            object,
+            &NamedBlock::new(tips.definitions, tip.id),
+            tip,
+        )?;
     }
     object.end_list()
 }
@@ -150,7 +163,7 @@ fn put_tips(alloc: Global, object: &mut Object, tips: &Tips<'_>) -> Result<(), A
 fn put_tip(
     alloc: Global,
     object: &mut Object,
-    block: &Block<'_>,
+    block: &NamedBlock<'_>,
     tip: &Tip,
 ) -> Result<(), AllocError> {
     object.item()?;

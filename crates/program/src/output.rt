@@ -1,9 +1,9 @@
 //! The standard output of a run, written as it comes.
 
-use crate::answer::Answer;
+use crate::answer::AnsweredCommand;
 use crate::comparison::compare;
 use crate::objects;
-use console::fault::Fault;
+use console::fault::RunFault;
 use console::files::print;
 use console::options::Form;
 use console::report::Report;
@@ -14,7 +14,7 @@ use std::io::Write;
 
 /// The standard output of a run.
 #[derive(Drop)]
-pub struct Output<'o, O> {
+pub struct RunOutput<'o, O> {
     alloc: Global,
     stream: &'o mut O,
     pub form: Form,
@@ -22,10 +22,15 @@ pub struct Output<'o, O> {
     kept: Option<String>,
 }
 
-impl<'o, O: Write> Output<'o, O> {
+impl<'o, O: Write> RunOutput<'o, O> {
     /// Only where it is to be compared, what is written is kept.
-    pub fn new(alloc: Global, stream: &'o mut O, form: Form, is_compared: bool) -> Output<'o, O> {
-        Output {
+    pub fn new(
+        alloc: Global,
+        stream: &'o mut O,
+        form: Form,
+        is_compared: bool,
+    ) -> RunOutput<'o, O> {
+        RunOutput {
             alloc,
             stream,
             form,
@@ -38,7 +43,7 @@ impl<'o, O: Write> Output<'o, O> {
     }
 
     /// The line above a client's answers.
-    pub fn client(&mut self, name: &str) -> Result<(), Fault<'static>> {
+    pub fn client(&mut self, name: &str) -> Result<(), RunFault<'static>> {
         match self.form {
             Form::Text => {
                 let line = format!(in self.alloc; "client {name}\n")?;
@@ -49,7 +54,11 @@ impl<'o, O: Write> Output<'o, O> {
     }
 
     /// Answers of a client, in their order.
-    pub fn answers(&mut self, client: &str, answers: &[Answer<'_>]) -> Result<(), Fault<'static>> {
+    pub fn answers(
+        &mut self,
+        client: &str,
+        answers: &[AnsweredCommand<'_>],
+    ) -> Result<(), RunFault<'static>> {
         let mut text = String::new(self.alloc);
         for answer in answers {
             match self.form {
@@ -62,7 +71,7 @@ impl<'o, O: Write> Output<'o, O> {
     }
 
     /// The journal of a history, with the names of blocks, below a line of its own.
-    pub fn journal(&mut self, report: &Report<'_, '_>) -> Result<(), Fault<'static>> {
+    pub fn journal(&mut self, report: &Report<'_, '_>) -> Result<(), RunFault<'static>> {
         if self.form == Form::Text {
             self.put("journal\n")?;
         }
@@ -75,7 +84,7 @@ impl<'o, O: Write> Output<'o, O> {
     }
 
     /// The block tree, below a line of its own where there is more.
-    pub fn tree(&mut self, text: &str) -> Result<(), Fault<'static>> {
+    pub fn tree(&mut self, text: &str) -> Result<(), RunFault<'static>> {
         if self.form == Form::Text {
             self.put("tree\n")?;
         }
@@ -83,7 +92,7 @@ impl<'o, O: Write> Output<'o, O> {
     }
 
     /// A line of the journal.
-    fn step(&mut self, step: &Step<'_, Label<'_>>) -> Result<(), Fault<'static>> {
+    fn step(&mut self, step: &Step<'_, Label<'_>>) -> Result<(), RunFault<'static>> {
         let text = match self.form {
             Form::Text => format!(in self.alloc; "{step}\n")?,
             Form::Json => objects::step(self.alloc, step)?,
@@ -93,7 +102,7 @@ impl<'o, O: Write> Output<'o, O> {
     }
 
     /// Writes a text, and hands it on at once.
-    fn put(&mut self, text: &str) -> Result<(), Fault<'static>> {
+    fn put(&mut self, text: &str) -> Result<(), RunFault<'static>> {
         if let Some(kept) = &mut self.kept {
             kept.push_str(text)?;
         }
@@ -101,7 +110,7 @@ impl<'o, O: Write> Output<'o, O> {
     }
 
     /// Refuses an output that isn't this, by its first line that differs.
-    pub fn compare(&self, expected: &[u8]) -> Result<(), Fault<'static>> {
+    pub fn compare(&self, expected: &[u8]) -> Result<(), RunFault<'static>> {
         match &self.kept {
             Some(kept) => compare(self.alloc, expected, kept.as_str()),
             None => Ok(()),

@@ -3,10 +3,10 @@
 ghost use Rattle.std.specs.Prelude.{◌≡◌};
 
 use crate::node_run::{run_clients, run_records};
-use crate::output::Output;
+use crate::output::RunOutput;
 use crate::writer::Writer;
 use block::SliceSource;
-use console::fault::Fault;
+use console::fault::RunFault;
 use console::files::{read_if_named, read_scenario, read_table};
 use console::history_tree::history_tree;
 use console::options::RunOptions;
@@ -31,7 +31,7 @@ use std::time::Clock;
 
 /// What the files of a run hold, beside the table.
 #[derive(Drop)]
-struct Inputs {
+struct RunFiles {
     scenario: Vec<u8>,
     blk: Option<Vec<u8>>,
     expected: Option<Vec<u8>>,
@@ -39,7 +39,7 @@ struct Inputs {
 
 /// How the node is opened.
 #[derive(Clone, Copy)]
-struct Setting {
+struct NodeSetting {
     params: Params,
     workers: usize,
 }
@@ -52,15 +52,15 @@ pub fn run<'w, R, I, O, E>(
     input: &mut I,
     out: &mut O,
     err: &mut E,
-) -> Result<(), Fault<'w>>
+) -> Result<(), RunFault<'w>>
 where
     R: Files<File = File> + AllocGlobal + Clock + Threads + Wait + Sync,
     I: Read,
     O: Write,
     E: Write + IsTerminal,
 {
-    let setting = Setting {
-        params: read_heights(options.heights).ok_or(Fault::Heights)?,
+    let setting = NodeSetting {
+        params: read_heights(options.heights).ok_or(RunFault::Heights)?,
         workers: options.workers,
     };
     let (inputs, table) = read_inputs(rt, options, input)?;
@@ -82,13 +82,13 @@ where
 /// The clients of a scenario, of which there has to be one.
 fn read_some_clients<'d, 't>(
     alloc: Global,
-    inputs: &Inputs,
+    inputs: &RunFiles,
     text: &'d Text<'t>,
-) -> Result<Vec<Client<'d, 't>>, Fault<'static>> {
+) -> Result<Vec<Client<'d, 't>>, RunFault<'static>> {
     let clients = read_clients(alloc, &text.definitions, text.below.as_slice())?;
     if clients.is_empty() {
         let why = Why::of_line(Complaint::Without);
-        return Err(Fault::ScenarioLine(number_after(inputs.scenario.as_slice()), why));
+        return Err(RunFault::ScenarioLine(number_after(inputs.scenario.as_slice()), why));
     }
     Ok(clients)
 }
@@ -97,14 +97,14 @@ fn read_some_clients<'d, 't>(
 fn run_read<'w, 'd, 't, R, O, E>(
     rt: &R,
     options: &RunOptions<'w>,
-    setting: Setting,
+    setting: NodeSetting,
     gate: &(dyn Gate + Sync),
-    inputs: &Inputs,
+    inputs: &RunFiles,
     definitions: &'d Definitions,
     clients: &[Client<'d, 't>],
     out: &mut O,
     err: &mut E,
-) -> Result<(), Fault<'w>>
+) -> Result<(), RunFault<'w>>
 where
     R: Files<File = File> + AllocGlobal + Clock + Threads + Wait + Sync,
     O: Write,
@@ -113,7 +113,7 @@ where
     check_before_run(rt, options, &inputs.blk)?;
     let is_terminal = err.is_terminal();
     let mut writer = Writer {
-        output: Output::new(rt.alloc(), out, options.form, inputs.expected.is_some()),
+        output: RunOutput::new(rt.alloc(), out, options.form, inputs.expected.is_some()),
         progress: Progress::new(rt, err, is_terminal),
         name: String::new(rt.alloc()),
         alloc: rt.alloc(),
@@ -149,11 +149,11 @@ fn finish_run<'w, R, O>(
     rt: &R,
     options: &RunOptions<'w>,
     params: &Params,
-    inputs: &Inputs,
+    inputs: &RunFiles,
     definitions: &Definitions,
     played: Played<'_, '_>,
-    output: &mut Output<'_, O>,
-) -> Result<(), Fault<'w>>
+    output: &mut RunOutput<'_, O>,
+) -> Result<(), RunFault<'w>>
 where
     R: Files<File = File> + AllocGlobal,
     O: Write,
@@ -173,8 +173,8 @@ fn save_run<'w, R>(
     options: &RunOptions<'w>,
     report: &Report<'_, '_>,
     definitions: &Definitions,
-    written: Result<(), Fault<'w>>,
-) -> Result<(), Fault<'w>>
+    written: Result<(), RunFault<'w>>,
+) -> Result<(), RunFault<'w>>
 where
     R: Files<File = File> + AllocGlobal,
 {
@@ -190,8 +190,8 @@ where
 
 fn compare_with<O: Write>(
     expected: Option<&[u8]>,
-    output: &Output<'_, O>,
-) -> Result<(), Fault<'static>> {
+    output: &RunOutput<'_, O>,
+) -> Result<(), RunFault<'static>> {
     match expected {
         Some(expected) => output.compare(expected),
         None => Ok(()),
@@ -204,7 +204,7 @@ fn check_before_run<'w, R>(
     rt: &R,
     options: &RunOptions<'w>,
     blk: &Option<Vec<u8>>,
-) -> Result<(), Fault<'w>>
+) -> Result<(), RunFault<'w>>
 where
     R: Files + AllocGlobal,
 {
@@ -232,8 +232,8 @@ fn write_rest<'w, R, O>(
     params: &Params,
     report: &Report<'_, '_>,
     definitions: &Definitions,
-    output: &mut Output<'_, O>,
-) -> Result<(), Fault<'w>>
+    output: &mut RunOutput<'_, O>,
+) -> Result<(), RunFault<'w>>
 where
     R: Files + AllocGlobal,
     O: Write,
@@ -257,7 +257,7 @@ fn read_inputs<'w, R, I>(
     rt: &R,
     options: &RunOptions<'w>,
     input: &mut I,
-) -> Result<(Inputs, Table), Fault<'w>>
+) -> Result<(RunFiles, Table), RunFault<'w>>
 where
     R: Files + AllocGlobal,
     I: Read,
@@ -268,7 +268,7 @@ where
     let table = read_if_named(rt, options.table)?;
     let expected = read_if_named(rt, options.expect)?;
     let table = read_table(rt.alloc(), lent(&table))?;
-    let inputs = Inputs {
+    let inputs = RunFiles {
         scenario,
         blk,
         expected,
@@ -288,26 +288,26 @@ fn lent(bytes: &Option<Vec<u8>>) -> Option<&[u8]> {
 struct Played<'d, 't> {
     report: Report<'d, 't>,
     /// That the output took no more, if it didn't.
-    written: Result<(), Fault<'static>>,
+    written: Result<(), RunFault<'static>>,
 }
 
 /// Runs the clients on a new node. After the output's fault, and that of its end, there is a history.
 fn play<'d, 't, R, E, O>(
     rt: &R,
-    setting: Setting,
+    setting: NodeSetting,
     gate: &(dyn Gate + Sync),
     definitions: &'d Definitions,
     clients: &[Client<'d, 't>],
     blk: Option<&[u8]>,
     writer: &mut Writer<'_, '_, '_, R, E, O>,
-) -> Result<Played<'d, 't>, Fault<'static>>
+) -> Result<Played<'d, 't>, RunFault<'static>>
 where
     R: AllocGlobal + Clock + Threads + Wait + Sync,
     O: Write,
     E: Write,
 {
     let alloc = rt.alloc();
-    let Setting { params, workers } = setting;
+    let NodeSetting { params, workers } = setting;
     let names = names(alloc, clients, blk.is_some())?;
     let table = Arc::new(alloc, definitions.table().copy()?)?;
     let opening = Opening::new(params, &table, names.len());
@@ -322,7 +322,7 @@ where
         writer,
     )?;
     match written {
-        Ok(()) | Err(Fault::CannotWrite(..) | Fault::Closed) => Ok(Played {
+        Ok(()) | Err(RunFault::CannotWrite(..) | RunFault::Closed) => Ok(Played {
             report: Report::new(alloc, definitions, clients_named(alloc, names), entries)?,
             written,
         }),
@@ -334,7 +334,7 @@ where
 #[derive(Drop)]
 struct Ran<'f> {
     entries: Vec<Entry>,
-    written: Result<(), Fault<'f>>,
+    written: Result<(), RunFault<'f>>,
 }
 
 /// Runs the clients on a node of this opening. The prover picks the node's name where this is called.
@@ -347,7 +347,7 @@ fn run_at_node<'f, J: Naming, R, E, O>(
     clients: &[Client<'_, '_>],
     blk: Option<&[u8]>,
     writer: &mut Writer<'_, '_, '_, R, E, O>,
-) -> Result<Ran<'f>, Fault<'f>>
+) -> Result<Ran<'f>, RunFault<'f>>
 where
     R: AllocGlobal + Clock + Threads + Wait + Sync,
     O: Write,
@@ -370,7 +370,7 @@ where
         // What was played is told and saved, since there is no other copy.
         Err(EndFault { history }) => Ok(Ran {
             entries: history,
-            written: Err(Fault::Closed),
+            written: Err(RunFault::Closed),
         }),
     }
 }
@@ -388,7 +388,7 @@ fn names<'t>(
     alloc: Global,
     clients: &[Client<'_, 't>],
     has_blk: bool,
-) -> Result<Vec<&'t str>, Fault<'static>> {
+) -> Result<Vec<&'t str>, RunFault<'static>> {
     let mut names = Vec::new(alloc);
     if has_blk {
         names.push(BLK)?;

@@ -7,9 +7,11 @@ use crate::play::run;
 use console::audit::{Audited, audit};
 use console::export::export;
 use console::exports::show;
-use console::fault::Fault;
+use console::fault::RunFault;
 use console::files::print;
-use console::options::{AuditOptions, Form, NAME, Options, STANDARD, no_text, text_asked_for};
+use console::options::{
+    AuditOptions, CommandOptions, Form, NAME, STANDARD, no_text, text_asked_for,
+};
 use console::pictures::draw_saved;
 use journal::Finding;
 use node::{Gate, Open, Reply};
@@ -97,7 +99,7 @@ where
             let outcome = attempt(rt, words.as_slice(), gate, input, out, err);
             status(alloc, outcome, form, err)
         }
-        Err(AllocError) => status(alloc, Err(Fault::Memory), Form::Text, err),
+        Err(AllocError) => status(alloc, Err(RunFault::Memory), Form::Text, err),
     }
 }
 
@@ -110,7 +112,7 @@ fn form_of(words: &[&str]) -> Form {
 }
 
 /// The status of a run. A fault is told.
-fn status<E: Write>(alloc: Global, outcome: Result<u8, Fault<'_>>, form: Form, err: &mut E) -> u8
+fn status<E: Write>(alloc: Global, outcome: Result<u8, RunFault<'_>>, form: Form, err: &mut E) -> u8
     ensures ok { IfOk outcome.entry (λ status. result ≡ status) }
     ensures fault { OnErr outcome.entry (result ≡ 1) }
 {
@@ -124,8 +126,8 @@ fn status<E: Write>(alloc: Global, outcome: Result<u8, Fault<'_>>, form: Form, e
 }
 
 /// Writes a fault's line. Where that fails too, the status alone says so.
-fn tell<E: Write>(alloc: Global, fault: &Fault<'_>, form: Form, err: &mut E) {
-    let is_text = form != Form::Json || matches!(fault, Fault::CommandLine(_));
+fn tell<E: Write>(alloc: Global, fault: &RunFault<'_>, form: Form, err: &mut E) {
+    let is_text = form != Form::Json || matches!(fault, RunFault::CommandLine(_));
     let _ = match objects::fault(alloc, fault) {
         Ok(object) if !is_text => write!(err, "{object}"),
         _ => write!(err, "{fault}"),
@@ -141,15 +143,15 @@ fn named<'w, S: AsStr>(alloc: Global, words: &'w [S]) -> Result<Vec<&'w str>, Al
     Ok(all)
 }
 
-fn read_words<R>(rt: &R) -> Result<Vec<String>, Fault<'static>>
+fn read_words<R>(rt: &R) -> Result<Vec<String>, RunFault<'static>>
 where
     R: Env + AllocGlobal,
 {
     match env::args(rt) {
         Ok(words) => Ok(words.skip(1).collect(rt.alloc())?),
         Err(error) => match error.kind() {
-            ErrorKind::OutOfMemory => Err(Fault::Memory),
-            _ => Err(Fault::from(no_text(rt.alloc())?)),
+            ErrorKind::OutOfMemory => Err(RunFault::Memory),
+            _ => Err(RunFault::from(no_text(rt.alloc())?)),
         },
     }
 }
@@ -162,7 +164,7 @@ fn attempt<'w, R, I, O, E>(
     input: &mut I,
     out: &mut O,
     err: &mut E,
-) -> Result<u8, Fault<'w>>
+) -> Result<u8, RunFault<'w>>
 where
     R: Files<File = File> + AllocGlobal + Clock + Threads + Wait + Sync,
     I: Read + Send,
@@ -183,7 +185,7 @@ fn act<'w, R, I, O, E>(
     input: &mut I,
     out: &mut O,
     err: &mut E,
-) -> Result<u8, Fault<'w>>
+) -> Result<u8, RunFault<'w>>
 where
     R: Files<File = File> + AllocGlobal + Clock + Threads + Wait + Sync,
     I: Read + Send,
@@ -191,18 +193,18 @@ where
     E: Write + IsTerminal,
     ensures { IfOk result (λ status. status ≤ 1) }
 {
-    match Options::read(rt.alloc(), words, out.is_terminal())? {
-        Options::Run(options) => done(run(rt, &options, gate, input, out, err)),
-        Options::Audit(options) => tell_audit(rt, &options, out, err),
-        Options::Tree(options) => done(draw_saved(rt, &options, input, out)),
-        Options::Show(options) => done(show(rt, &options, input, out)),
-        Options::Serve(options) => done(serve(rt, &options, gate, input, out, err)),
-        Options::Export(options) => done(export(rt, &options)),
+    match CommandOptions::read(rt.alloc(), words, out.is_terminal())? {
+        CommandOptions::Run(options) => done(run(rt, &options, gate, input, out, err)),
+        CommandOptions::Audit(options) => tell_audit(rt, &options, out, err),
+        CommandOptions::Tree(options) => done(draw_saved(rt, &options, input, out)),
+        CommandOptions::Show(options) => done(show(rt, &options, input, out)),
+        CommandOptions::Serve(options) => done(serve(rt, &options, gate, input, out, err)),
+        CommandOptions::Export(options) => done(export(rt, &options)),
     }
 }
 
 /// The status of what has no other than that of a whole output.
-fn done(outcome: Result<(), Fault<'_>>) -> Result<u8, Fault<'_>>
+fn done(outcome: Result<(), RunFault<'_>>) -> Result<u8, RunFault<'_>>
     ensures { IfOk result (λ status. status ≤ 1) }
 {
     match outcome {
@@ -217,7 +219,7 @@ fn tell_audit<'w, R, O, E>(
     options: &AuditOptions<'w>,
     out: &mut O,
     err: &mut E,
-) -> Result<u8, Fault<'w>>
+) -> Result<u8, RunFault<'w>>
 where
     R: Files<File = File> + AllocGlobal + Clock,
     O: Write,

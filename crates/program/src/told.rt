@@ -9,24 +9,24 @@ use txn::Script;
 
 /// What a seat answered.
 #[derive(Drop)]
-pub enum Told<'d> {
+pub enum SeatReply<'d> {
     Submit(SubmitReply),
     Mark(MarkReply),
-    Best(Block<'d>),
-    Tips(Tips<'d>),
+    Best(NamedBlock<'d>),
+    Tips(NamedTips<'d>),
     Output(Option<UnspentOutput>),
 }
 
 /// A block, with its name.
 #[derive(Clone, Copy)]
-pub struct Block<'d> {
+pub struct NamedBlock<'d> {
     pub id: Id,
     pub label: Label<'d>,
 }
 
-impl<'d> Block<'d> {
-    pub fn new(definitions: &'d Definitions, id: Id) -> Block<'d> {
-        Block {
+impl<'d> NamedBlock<'d> {
+    pub fn new(definitions: &'d Definitions, id: Id) -> NamedBlock<'d> {
+        NamedBlock {
             id,
             label: definitions.label(id),
         }
@@ -43,25 +43,25 @@ impl<'d> Block<'d> {
 
 /// The tips of the tree, with the names of their blocks.
 #[derive(Drop)]
-pub struct Tips<'d> {
+pub struct NamedTips<'d> {
     pub definitions: &'d Definitions,
     pub list: Vec<Tip>,
 }
 
-impl fmt::Display for Told<'_> {
+impl fmt::Display for SeatReply<'_> {
     fn fmt<W: fmt::Write>(&self, f: &mut fmt::Formatter<W>) -> fmt::Result {
         match self {
-            Told::Submit(reply) => reply.fmt(f),
-            Told::Mark(reply) => reply.fmt(f),
-            Told::Best(block) => block.label.fmt(f),
-            Told::Tips(tips) => tips.fmt(f),
-            Told::Output(None) => f.write_str("none"),
-            Told::Output(Some(output)) => write_output(output, f),
+            SeatReply::Submit(reply) => reply.fmt(f),
+            SeatReply::Mark(reply) => reply.fmt(f),
+            SeatReply::Best(block) => block.label.fmt(f),
+            SeatReply::Tips(tips) => tips.fmt(f),
+            SeatReply::Output(None) => f.write_str("none"),
+            SeatReply::Output(Some(output)) => write_output(output, f),
         }
     }
 }
 
-impl fmt::Display for Tips<'_> {
+impl fmt::Display for NamedTips<'_> {
     fn fmt<W: fmt::Write>(&self, f: &mut fmt::Formatter<W>) -> fmt::Result {
         for (place, tip) in self.list.iter().enumerate() {
             if place > 0 {

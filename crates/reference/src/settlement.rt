@@ -14,13 +14,13 @@ use wire::Memory;
 
 /// What was found when the state was settled.
 #[derive(Drop)]
-pub(crate) struct Settled {
+pub(crate) struct Settlement {
     pub(crate) judged: Vec<Judgement>,
     pub(crate) active: usize,
 }
 
 /// Marks and sees what settling does, all decided on the state as it is.
-pub(crate) fn settle(alloc: Global, chain: &Chain, old: &mut Replayed) -> Result<Settled, Memory>
+pub(crate) fn settle(alloc: Global, chain: &Chain, old: &mut Replayed) -> Result<Settlement, Memory>
     requires { IsRight (chain_rules chain.now) old.old }
     ensures state { OnOk result
         (state_of_replayed old.new
@@ -36,7 +36,7 @@ pub(crate) fn settle(alloc: Global, chain: &Chain, old: &mut Replayed) -> Result
     let active = best_of(&judged);
     let near = near(alloc, &old.held, &judged, active)?;
     raise(&mut old.bad, &mut old.seen, &judged, &near);
-    Ok(Settled { judged, active })
+    Ok(Settlement { judged, active })
 }
 
 /// Of each place, whether it is on the branch of a usable block that is the active one or better.

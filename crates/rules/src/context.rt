@@ -16,7 +16,7 @@ use txn::{Reason, Tx};
 /// The target of every block of regtest, in its compact form.
 pub const REGTEST_BITS: u32 = 0x207f_ffff;
 
-/// So many seconds a block's time may lie ahead of the clock (Bitcoin Core's `MAX_FUTURE_BLOCK_TIME`).
+/// How many seconds a block's time may lie ahead of the clock (Bitcoin Core's `MAX_FUTURE_BLOCK_TIME`).
 pub const MAX_FUTURE_BLOCK_TIME: u64 = 7200;
 
 /// The first rule that a block breaks by its place, of its header and then of its transactions.

@@ -264,7 +264,7 @@ impl Payload<'_> {
     }
 }
 
-/// So many of the bytes, or all where there are fewer.
+/// This many of the bytes, or all where there are fewer.
 fn front(bytes: &[u8], length: u64) -> &[u8] {
     if length < bytes.len() as u64 {
         &bytes[..length as usize]

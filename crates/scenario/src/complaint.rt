@@ -3,7 +3,7 @@
 use std::alloc::{AllocError, Global};
 use std::fmt;
 
-/// So many bytes of a word are told at most: a script or a block may have a million digits.
+/// The most bytes of a word that are told: a script or a block may have a million digits.
 const MAX_TOLD: usize = 72;
 
 /// What is wrong with a line of a scenario, or with one of its words.

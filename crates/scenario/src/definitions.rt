@@ -209,7 +209,7 @@ impl Definitions {
         made(self.alloc, name, self.find(parent)?, recipe)
     }
 
-    /// So many blocks, one on the other, under the name and the numbers from 1 on.
+    /// This many blocks, one on the other, under the name and the numbers from 1 on.
     fn chain(&mut self, name: &str, word: &str, parent: &str) -> Result<(), LineFault> {
         let count = number(self.alloc, word, COUNT)?;
         if count < 1 || count > MAX_CHAIN {

@@ -10,7 +10,7 @@ use crate::board::Board;
 use crate::by_need::{learnt, wanted};
 use crate::lists::steps;
 use crate::save_request::saved;
-use crate::submissions::{Submission, judged, submitted};
+use crate::submissions::{TimedBlock, judged, submitted};
 use crate::texts::output_of;
 use crate::turn::{Ask, Blank, Turn};
 use crate::words::Facts;
@@ -31,7 +31,7 @@ const MAX_REPLY: usize = 128;
 
 /// What waits for a seat, and where its answers go.
 #[derive(Drop)]
-pub struct Desk {
+pub struct SeatDesk {
     /// The seat's.
     pub number: usize,
     pub turns: Receiver<Turn>,
@@ -44,7 +44,7 @@ pub fn answer_turns<J: Naming, R>(
     node: &Node<'_, J>,
     board: &Board<J>,
     facts: &Facts<'_>,
-    desk: &Desk,
+    desk: &SeatDesk,
     seat: &mut Seat<'_, J>,
 )
 where
@@ -65,7 +65,7 @@ where
 /// Sends a line that tells of so many steps. Whether it was taken.
 fn send<J: Naming, R: Wait>(
     rt: &R,
-    desk: &Desk,
+    desk: &SeatDesk,
     board: &Board<J>,
     line: Result<Vec<u8>, AllocError>,
     stamp: Result<u64, node::Fault>,
@@ -103,7 +103,7 @@ where
     };
     match call {
         Call::Submit(block, now) => {
-            let submission = Submission { block, now };
+            let submission = TimedBlock { block, now };
             submitted(rt, node, &board.waste, blank, submission, seat)
         }
         Call::Judge(block, now) => judged(rt, node, blank, block.as_slice(), now, seat),

@@ -39,9 +39,9 @@ impl<J: Naming> Model for Blocks<J> {
 
 /// Who takes no step.
 #[derive(Drop)]
-struct Nobody {}
+struct TakesNothing {}
 
-impl Lays<()> for Nobody {
+impl Lays<()> for TakesNothing {
     ghost laid = { λ nobody _. nobody };
 
     fn lay(&mut self, _: Global, _: ()) -> Result<(), Memory> {
@@ -146,7 +146,7 @@ fn add_brought(alloc: Global, tree: &mut Tree, entry: &Entry) -> Result<(), Memo
     ensures err { OnErr result (tree.new ≡ tree.old) }
 {
     match brought_by(alloc, tree, entry)? {
-        Some(new) => tree.add(alloc, new, &mut Nobody {}, ()),
+        Some(new) => tree.add(alloc, new, &mut TakesNothing {}, ()),
         None => Ok(()),
     }
 }

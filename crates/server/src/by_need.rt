@@ -8,7 +8,7 @@ ghost use Rattle.server.specs.inside.Verdicts.{AreLearnt, AreSpelled, IsSpelled}
 
 use crate::answers::refused;
 use crate::turn::Blank;
-use console::fault::Fault;
+use console::fault::RunFault;
 use console::report::Clients;
 use node::{Command, Entry, KeptTriple, Naming, Node, Seat};
 use serving::Answer;
@@ -164,7 +164,7 @@ pub fn without_verdicts<'t>(
     alloc: Global,
     clients: Clients<'t>,
     entries: Vec<Entry>,
-) -> Result<Parted<'t>, Fault<'static>> {
+) -> Result<Parted<'t>, RunFault<'static>> {
     let mut names = Vec::new(alloc);
     let mut others = Vec::new(alloc);
     let mut valid = String::new(alloc);

@@ -7,7 +7,7 @@ ghost use Rattle.server.specs.inside.Delivery.{GoesOn, KeepsToTheEnd, Appends};
 use crate::outbox::Outbox;
 use crate::words::Facts;
 use console::datadir::{HostFault, entry_line};
-use console::fault::Fault;
+use console::fault::RunFault;
 use crossbeam_channel::Receiver;
 use durable::{Answer, Host, KeptLog, Lost};
 use node::Entry;
@@ -16,7 +16,7 @@ use std::alloc::{AllocError, Global};
 use std::sync::Wait;
 
 /// A log that goes on, or why it doesn't.
-pub type Told<H> = Result<KeptLog<H>, Lost<Fault<'static>, H>>;
+pub type Told<H> = Result<KeptLog<H>, Lost<RunFault<'static>, H>>;
 
 /// The answers that wait to go out, with the memory for all that is done with them where the history isn't kept: so each
 /// answer that was made goes out.
@@ -65,7 +65,7 @@ pub fn tell_as_they_come<R, H>(
 ) -> Told<H>
 where
     R: AllocGlobal + Wait,
-    H: Host<Fault = HostFault> + Drop,
+    H: Host<Failure = HostFault> + Drop,
     ensures goes_on { IfOk result (λ now. GoesOn H.calls log.log now.log) }
     ensures lost { IfErr result (λ lost. KeepsToTheEnd H.calls log.log lost.host) }
 {
@@ -74,7 +74,7 @@ where
         match lines.take(rt) {
             Ok(true) => {}
             Ok(false) => return Ok(log),
-            Err(AllocError) => return Err(given_up(Fault::Memory, log)),
+            Err(AllocError) => return Err(given_up(RunFault::Memory, log)),
         }
         let entries = outbox.take(rt);
         match tell_all(rt.alloc(), facts, entries.as_slice(), &lines.at_hand, log) {
@@ -94,7 +94,7 @@ pub fn tell_all<H>(
     log: KeptLog<H>,
 ) -> Told<H>
 where
-    H: Host<Fault = HostFault> + Drop,
+    H: Host<Failure = HostFault> + Drop,
     ensures goes_on { IfOk result (λ now. GoesOn H.calls log.log now.log) }
     ensures lost { IfErr result (λ lost. KeepsToTheEnd H.calls log.log lost.host) }
     ensures appended { IfOk result (λ now. length (history H.calls now.log)
@@ -111,7 +111,7 @@ where
 /// Brings all that waits onto the disk, and lets all answers out then. None tells of a step that the log lacks.
 fn let_go<H>(answers: &[Answer], log: KeptLog<H>) -> Told<H>
 where
-    H: Host<Fault = HostFault> + Drop,
+    H: Host<Failure = HostFault> + Drop,
     ensures goes_on { IfOk result (λ now. GoesOn H.calls log.log now.log) }
     ensures lost { IfErr result (λ lost. KeepsToTheEnd H.calls log.log lost.host) }
     ensures same { IfOk result (λ now. history H.calls now.log ≡ history H.calls log.log) }
@@ -120,9 +120,9 @@ where
 {
     match log.round(answers) {
         Ok((log, went)) if went == answers.len() => Ok(log),
-        Ok((log, _)) => Err(given_up(Fault::Closed, log)),
+        Ok((log, _)) => Err(given_up(RunFault::Closed, log)),
         Err(Lost { fault, host }) => Err(Lost {
-            fault: Fault::from(fault),
+            fault: RunFault::from(fault),
             host,
         }),
     }
@@ -130,7 +130,7 @@ where
 
 fn append_all<H>(alloc: Global, facts: &Facts<'_>, entries: &[Entry], log: KeptLog<H>) -> Told<H>
 where
-    H: Host<Fault = HostFault> + Drop,
+    H: Host<Failure = HostFault> + Drop,
     ensures goes_on { IfOk result (λ now. GoesOn H.calls log.log now.log) }
     ensures lost { IfErr result (λ lost. KeepsToTheEnd H.calls log.log lost.host) }
     ensures appended { IfOk result (λ now.
@@ -148,7 +148,7 @@ where
 
 fn append<H>(alloc: Global, facts: &Facts<'_>, entry: &Entry, log: KeptLog<H>) -> Told<H>
 where
-    H: Host<Fault = HostFault> + Drop,
+    H: Host<Failure = HostFault> + Drop,
     ensures goes_on { IfOk result (λ now. GoesOn H.calls log.log now.log) }
     ensures lost { IfErr result (λ lost. KeepsToTheEnd H.calls log.log lost.host) }
     ensures appended { IfOk result (λ now. Appends H.calls log.log now.log 1) }
@@ -162,7 +162,7 @@ where
 
 fn append_line<H>(line: Vec<u8>, log: KeptLog<H>) -> Told<H>
 where
-    H: Host<Fault = HostFault> + Drop,
+    H: Host<Failure = HostFault> + Drop,
     ensures goes_on { IfOk result (λ now. GoesOn H.calls log.log now.log) }
     ensures lost { IfErr result (λ lost. KeepsToTheEnd H.calls log.log lost.host) }
     ensures appended { IfOk result (λ now. Appends H.calls log.log now.log 1) }
@@ -170,16 +170,16 @@ where
     match log.append(line) {
         Ok(log) => Ok(log),
         Err(Lost { fault, host }) => Err(Lost {
-            fault: Fault::from(fault),
+            fault: RunFault::from(fault),
             host,
         }),
     }
 }
 
 /// Why a log is no more, and its host.
-fn given_up<H>(fault: Fault<'static>, log: KeptLog<H>) -> Lost<Fault<'static>, H>
+fn given_up<H>(fault: RunFault<'static>, log: KeptLog<H>) -> Lost<RunFault<'static>, H>
 where
-    H: Host<Fault = HostFault> + Drop,
+    H: Host<Failure = HostFault> + Drop,
     ensures { KeepsToTheEnd H.calls log.log result.host }
 {
     Lost {
@@ -189,9 +189,9 @@ where
 }
 
 /// Says by this line, which tells of no step, that no answer goes out any more: why that is so.
-pub fn tell_unsaved<H>(line: &Vec<u8>, lost: Lost<Fault<'static>, H>) -> Fault<'static>
+pub fn tell_unsaved<H>(line: &Vec<u8>, lost: Lost<RunFault<'static>, H>) -> RunFault<'static>
 where
-    H: Host<Fault = HostFault> + Drop,
+    H: Host<Failure = HostFault> + Drop,
 {
     let Lost { fault, mut host } = lost;
     let _ = host.tell(0, line);

@@ -6,7 +6,7 @@ use crate::waste::taken_by;
 use crate::words::SEATS;
 use block::SliceSource;
 use console::ahead::{CommandsAhead, NextBlock, RecordsAhead};
-use console::fault::Fault;
+use console::fault::RunFault;
 use console::progress::Progress;
 use console::replay::BLK_MOMENT;
 use console::report::Clients;
@@ -45,7 +45,7 @@ pub fn play_earlier<J: Naming, R, E>(
     earlier: &Earlier<'_>,
     clients: &mut Clients<'_>,
     progress: &mut Progress<'_, '_, R, E>,
-) -> Result<(), Fault<'static>>
+) -> Result<(), RunFault<'static>>
 where
     R: AllocGlobal + Clock + Threads + Wait + Sync,
     E: Write,
@@ -60,7 +60,7 @@ where
         }
         let before = seat.note().len();
         let reply = match asked(rt, node, seat, command) {
-            Err(node::Fault::Unknown) if earlier.is_kept => Err(Fault::NoStep(step.number)),
+            Err(node::Fault::Unknown) if earlier.is_kept => Err(RunFault::NoStep(step.number)),
             Err(node::Fault::Unknown) => replied(rt, node, seat, command),
             answer => answer.map_err(unanswered),
         }?;
@@ -69,10 +69,10 @@ where
         progress.count(matches!(command, Command::Submit(..)));
         match step.reply {
             Some(recorded) if recorded != reply => {
-                return Err(Fault::OtherReply(step.number, reply));
+                return Err(RunFault::OtherReply(step.number, reply));
             }
             _ if earlier.is_kept && seat.note().len() != step.number as u64 => {
-                return Err(Fault::NoStep(step.number));
+                return Err(RunFault::NoStep(step.number));
             }
             _ => {}
         }
@@ -104,7 +104,7 @@ fn replied<J: Naming, R>(
     node: &Node<'_, J>,
     seat: &mut Seat<'_, J>,
     command: &Command,
-) -> Result<Reply, Fault<'static>>
+) -> Result<Reply, RunFault<'static>>
 where
     R: AllocGlobal + Threads + Wait + Sync,
 {
@@ -116,7 +116,7 @@ where
             Err(fault) => return Err(unanswered(fault)),
         }
     }
-    Err(Fault::Closed)
+    Err(RunFault::Closed)
 }
 
 /// What a seat answers to a command.
@@ -165,7 +165,7 @@ fn submit_file<J: Naming, R>(
     seat: &mut Seat<'_, J>,
     records: &mut RecordsAhead<'_>,
     clients: &mut Clients<'_>,
-) -> Result<(), Fault<'static>>
+) -> Result<(), RunFault<'static>>
 where
     R: AllocGlobal + Threads + Wait + Sync,
 {

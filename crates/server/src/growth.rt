@@ -4,7 +4,7 @@ use std::sync::{Condvar, Mutex, Wait};
 
 /// How many steps the history has at least, and whether requests can still come.
 #[derive(Clone, Copy)]
-struct Known {
+struct KnownLength {
     steps: u64,
     is_over: bool,
 }
@@ -12,14 +12,14 @@ struct Known {
 /// What is known of the history's length.
 #[derive(Drop)]
 pub struct Growth {
-    known: Mutex<Known>,
+    known: Mutex<KnownLength>,
     changed: Condvar,
 }
 
 impl Growth {
     pub fn new() -> Growth {
         Growth {
-            known: Mutex::new(Known {
+            known: Mutex::new(KnownLength {
                 steps: 0,
                 is_over: false,
             }),

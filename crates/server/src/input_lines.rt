@@ -3,7 +3,7 @@
 use crate::outbox::Outbox;
 use crate::tally::Tally;
 use crate::turn::{Ask, Blank, Turn};
-use console::fault::Fault;
+use console::fault::RunFault;
 use console::options::STANDARD;
 use crossbeam_channel::{Sender, TrySendError};
 use durable::Answer;
@@ -22,7 +22,7 @@ pub const READ_AHEAD: usize = 65_536;
 
 /// A line of the input.
 #[derive(Drop)]
-pub enum Line {
+pub enum InputLine {
     Whole(Vec<u8>),
     /// More than a line may have. It is skipped.
     TooMuch(Refusal),
@@ -30,7 +30,7 @@ pub enum Line {
 
 /// What was at hand of a line.
 #[derive(Drop)]
-enum Piece {
+enum LinePiece {
     Middle,
     Last,
     /// Nothing: the input has ended.
@@ -44,14 +44,14 @@ enum Piece {
 enum Next {
     Line,
     /// Nothing, before this was done.
-    Stop(Stop),
+    WhenIdle(WhenIdle),
     /// The end, since nobody takes what comes.
     Left,
 }
 
 /// What is done when no request is under way.
 #[derive(Drop)]
-pub enum Stop {
+pub enum WhenIdle {
     /// To end, for which this request asked.
     Finish(RequestId),
     /// To save what happened so far, and to go on.
@@ -74,11 +74,11 @@ pub struct Doors {
 /// Where requests come from, a line each.
 pub trait Requests {
     /// The next line, without its end; the last may lack it. One that has too much is skipped.
-    fn next_line(&mut self, alloc: Global) -> io::Result<Option<Line>>;
+    fn next_line(&mut self, alloc: Global) -> io::Result<Option<InputLine>>;
 }
 
 impl<I: Read> Requests for BufReader<I> {
-    fn next_line(&mut self, alloc: Global) -> io::Result<Option<Line>> {
+    fn next_line(&mut self, alloc: Global) -> io::Result<Option<InputLine>> {
         read_line(alloc, self)
     }
 }
@@ -89,7 +89,7 @@ pub fn read_requests<R, I>(
     outbox: &Outbox,
     doors: &Doors,
     input: &mut I,
-) -> io::Result<Option<Stop>>
+) -> io::Result<Option<WhenIdle>>
 where
     R: AllocGlobal + Wait,
     I: Requests,
@@ -97,7 +97,7 @@ where
     for _ in 0..u64::MAX {
         match read_next(rt, outbox, doors, input)? {
             Next::Line => {}
-            Next::Stop(stop) => return Ok(Some(stop)),
+            Next::WhenIdle(stop) => return Ok(Some(stop)),
             Next::Left => return Ok(None),
         }
     }
@@ -118,19 +118,19 @@ where
 }
 
 /// The next line, without its end; the last may lack it. One that has too much is skipped.
-fn read_line<I: BufRead>(alloc: Global, input: &mut I) -> io::Result<Option<Line>> {
+fn read_line<I: BufRead>(alloc: Global, input: &mut I) -> io::Result<Option<InputLine>> {
     let mut line = Vec::new(alloc);
     let mut tally = Tally::new();
     for _ in 0..u64::MAX {
         match read_piece(input, &mut line, &mut tally)? {
-            Piece::Middle => {}
-            Piece::Last => return Ok(Some(Line::Whole(line))),
-            Piece::None if line.is_empty() => return Ok(None),
-            Piece::None => return Ok(Some(Line::Whole(line))),
-            Piece::TooMuch(refusal) => {
+            LinePiece::Middle => {}
+            LinePiece::Last => return Ok(Some(InputLine::Whole(line))),
+            LinePiece::None if line.is_empty() => return Ok(None),
+            LinePiece::None => return Ok(Some(InputLine::Whole(line))),
+            LinePiece::TooMuch(refusal) => {
                 drop(line);
                 input.skip_until(b'\n')?;
-                return Ok(Some(Line::TooMuch(refusal)));
+                return Ok(Some(InputLine::TooMuch(refusal)));
             }
         }
     }
@@ -142,25 +142,25 @@ fn read_piece<I: BufRead>(
     input: &mut I,
     line: &mut Vec<u8>,
     tally: &mut Tally,
-) -> io::Result<Piece> {
+) -> io::Result<LinePiece> {
     let bytes = match input.fill_buf() {
         Ok(bytes) => bytes,
-        Err(error) if error.kind() == ErrorKind::Interrupted => return Ok(Piece::Middle),
+        Err(error) if error.kind() == ErrorKind::Interrupted => return Ok(LinePiece::Middle),
         Err(error) => return Err(error),
     };
     if bytes.is_empty() {
-        return Ok(Piece::None);
+        return Ok(LinePiece::None);
     }
     let (front, taken, piece) = match memchr(b'\n', bytes) {
-        Some(end) => (&bytes[..end], end + 1, Piece::Last),
-        None => (bytes, bytes.len(), Piece::Middle),
+        Some(end) => (&bytes[..end], end + 1, LinePiece::Last),
+        None => (bytes, bytes.len(), LinePiece::Middle),
     };
     if front.len() > MAX_LINE.saturating_sub(line.len()) {
-        return Ok(Piece::TooMuch(Refusal::TooLong));
+        return Ok(LinePiece::TooMuch(Refusal::TooLong));
     }
     tally.add(front);
     if tally.is_above() {
-        return Ok(Piece::TooMuch(Refusal::TooMany));
+        return Ok(LinePiece::TooMuch(Refusal::TooMany));
     }
     line.extend_from_slice(front)?;
     input.consume(taken);
@@ -168,13 +168,13 @@ fn read_piece<I: BufRead>(
 }
 
 /// Has a line wait for its seat, or answers it.
-fn pass_on<R>(rt: &R, doors: &Doors, line: Line) -> io::Result<Next>
+fn pass_on<R>(rt: &R, doors: &Doors, line: InputLine) -> io::Result<Next>
 where
     R: AllocGlobal + Wait,
 {
     let Request { id, asked } = match line {
-        Line::Whole(line) => read_request(rt.alloc(), line.as_slice(), doors.seats.len())?,
-        Line::TooMuch(refusal) => Request {
+        InputLine::Whole(line) => read_request(rt.alloc(), line.as_slice(), doors.seats.len())?,
+        InputLine::TooMuch(refusal) => Request {
             id: RequestId::Null,
             asked: Asked::Refused(None, refusal),
         },
@@ -188,12 +188,15 @@ where
             let turn = Turn::new(rt.alloc(), id, Ask::Refused(refusal))?;
             Ok(doors.wait(rt, seat, turn)?)
         }
-        Asked::Save if doors.is_saved => Ok(Next::Stop(Stop::Save(Blank::new(rt.alloc(), id)?))),
+        Asked::Save if doors.is_saved => Ok(Next::WhenIdle(WhenIdle::Save(Blank::new(
+            rt.alloc(),
+            id,
+        )?))),
         Asked::Save => {
             let turn = Turn::new(rt.alloc(), id, Ask::Save)?;
             Ok(doors.wait(rt, 0, turn)?)
         }
-        Asked::Finish => Ok(Next::Stop(Stop::Finish(id))),
+        Asked::Finish => Ok(Next::WhenIdle(WhenIdle::Finish(id))),
         Asked::Info => {
             let line = info_line(Vec::new(rt.alloc()), &id, &doors.info)?;
             Ok(doors.tell(rt, line))
@@ -234,9 +237,9 @@ fn passed(is_taken: bool) -> Next {
 }
 
 /// Why no more is read.
-pub fn unread(error: Error) -> Fault<'static> {
+pub fn unread(error: Error) -> RunFault<'static> {
     match error.kind() {
-        ErrorKind::OutOfMemory => Fault::Memory,
-        _ => Fault::CannotRead(STANDARD, error),
+        ErrorKind::OutOfMemory => RunFault::Memory,
+        _ => RunFault::CannotRead(STANDARD, error),
     }
 }

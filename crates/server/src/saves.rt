@@ -5,7 +5,7 @@ use crate::service::taken;
 use crate::turn::Blank;
 use crate::words::Facts;
 use console::datadir::HostFault;
-use console::fault::Fault;
+use console::fault::RunFault;
 use console::report::{Clients, Report};
 use console::saves::{heights_line, save, save_invalid};
 use durable::{Host, KeptLog, Lost};
@@ -26,7 +26,7 @@ pub fn save_served<'w, R>(
     folder: &'w str,
     facts: &Facts<'_>,
     entries: Vec<Entry>,
-) -> Result<(), Fault<'w>>
+) -> Result<(), RunFault<'w>>
 where
     R: Files<File = File> + AllocGlobal,
 {
@@ -65,18 +65,18 @@ pub fn answer_saved<J: Naming, R, H>(
     seats: &mut [Seat<'_, J>],
     blank: Blank,
     log: &Mutex<Option<KeptLog<H>>>,
-) -> Result<(), Fault<'static>>
+) -> Result<(), RunFault<'static>>
 where
     R: Files<File = File> + AllocGlobal + Wait,
-    H: Host<Fault = HostFault> + Drop,
+    H: Host<Failure = HostFault> + Drop,
 {
     let line = match save_so_far(rt, facts, seats) {
         Ok(steps) => blank.answer(rt.alloc(), steps, Answer::Place)?,
-        Err(Fault::Memory) => blank.refuse(Refusal::Memory)?,
+        Err(RunFault::Memory) => blank.refuse(Refusal::Memory)?,
         Err(fault) => blank.refuse(Refusal::NotSaved(reason(&fault)))?,
     };
     let Some(kept) = taken(rt, log) else {
-        return Err(Fault::Closed);
+        return Err(RunFault::Closed);
     };
     let answers = vec![in rt.alloc();
         durable::Answer {
@@ -90,7 +90,7 @@ where
             *guard = Some(kept);
             Ok(())
         }
-        Err(Lost { fault, host: _host }) => Err(Fault::from(fault)),
+        Err(Lost { fault, host: _host }) => Err(RunFault::from(fault)),
     }
 }
 
@@ -99,12 +99,12 @@ fn save_so_far<'w, J: Naming, R>(
     rt: &R,
     facts: &Facts<'w>,
     seats: &mut [Seat<'_, J>],
-) -> Result<u64, Fault<'w>>
+) -> Result<u64, RunFault<'w>>
 where
     R: Files<File = File> + AllocGlobal,
 {
     let (Some(folder), Some((seat, others))) = (facts.save, seats.split_first_mut()) else {
-        return Err(Fault::Closed);
+        return Err(RunFault::Closed);
     };
     for other in others.iter() {
         seat.told(&other.note());
@@ -114,15 +114,15 @@ where
             save_served(rt, folder, facts, listed.value)?;
             Ok(listed.at)
         }
-        Err(node::Fault::Memory) => Err(Fault::Memory),
-        Err(_) => Err(Fault::Closed),
+        Err(node::Fault::Memory) => Err(RunFault::Memory),
+        Err(_) => Err(RunFault::Closed),
     }
 }
 
 /// Why a folder couldn't be written, in a word of an answer.
-fn reason(fault: &Fault<'_>) -> &'static str {
+fn reason(fault: &RunFault<'_>) -> &'static str {
     match fault {
-        Fault::CannotWrite(_, error) => match error.kind() {
+        RunFault::CannotWrite(_, error) => match error.kind() {
             ErrorKind::StorageFull => "no space",
             ErrorKind::PermissionDenied => "permission",
             ErrorKind::ReadOnlyFilesystem => "read-only",

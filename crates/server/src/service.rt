@@ -1,15 +1,15 @@
 //! The threads of a served node: one for each seat, one that reads, and this one, which writes.
 
-use crate::answers::{Desk, answer_turns};
+use crate::answers::{SeatDesk, answer_turns};
 use crate::board::Board;
 use crate::delivery::{Lines, tell_as_they_come, tell_unsaved};
 use crate::growth::Growth;
-use crate::input_lines::{Doors, Requests, Stop, read_requests, unread};
+use crate::input_lines::{Doors, Requests, WhenIdle, read_requests, unread};
 use crate::outbox::Outbox;
-use crate::session::Ended;
+use crate::session::ServiceOutcome;
 use crate::words::Facts;
 use console::datadir::HostFault;
-use console::fault::Fault;
+use console::fault::RunFault;
 use durable::{Host, KeptLog};
 use node::{Naming, Node, Seat};
 use std::alloc::Global;
@@ -21,20 +21,20 @@ use std::{io, thread};
 const WAITING: usize = 64;
 
 /// What a request asked for that stopped the reading, if one did, or why no more is read.
-type Asked = io::Result<Option<Stop>>;
+type ReadEnd = io::Result<Option<WhenIdle>>;
 
 /// What was read, and whether all lines were written, where the threads could be made.
-type Done = Result<(Asked, Result<(), Fault<'static>>), Fault<'static>>;
+type ServiceEnd = Result<(ReadEnd, Result<(), RunFault<'static>>), RunFault<'static>>;
 
 /// A seat, and what its thread reads and answers.
 #[derive(Drop)]
-struct Place<'s, 't, J: Naming> {
+struct SeatWork<'s, 't, J: Naming> {
     seat: &'s mut Seat<'t, J>,
-    desk: Desk,
+    desk: SeatDesk,
 }
 
 /// What each thread takes when it begins.
-type Places<'s, 't, J> = Vec<Mutex<Option<Place<'s, 't, J>>>>;
+type SeatsWork<'s, 't, J> = Vec<Mutex<Option<SeatWork<'s, 't, J>>>>;
 
 /// Answers the requests of an input on an output until it ends, or until one asks for what is done when none is under way.
 pub fn serve_requests<'t, J: Naming, R, I, H>(
@@ -44,11 +44,11 @@ pub fn serve_requests<'t, J: Naming, R, I, H>(
     facts: &Facts<'_>,
     input: &mut I,
     log: &Mutex<Option<KeptLog<H>>>,
-) -> Result<Ended<'static>, Fault<'static>>
+) -> Result<ServiceOutcome<'static>, RunFault<'static>>
 where
     R: AllocGlobal + Threads + Wait + Sync,
     I: Requests + Send,
-    H: Host<Fault = HostFault> + Drop,
+    H: Host<Failure = HostFault> + Drop,
 {
     let alloc = rt.alloc();
     let board = Board::new(alloc, seats, facts)?;
@@ -61,7 +61,7 @@ where
         is_saved: facts.save.is_some(),
         info: facts.info(),
     };
-    let mut places: Places<'_, 't, J> = Vec::new(alloc);
+    let mut places: SeatsWork<'_, 't, J> = Vec::new(alloc);
     let all = seats.iter_mut();
     for seat in all {
         add_place(alloc, seat, &mut doors, &mut places)?;
@@ -74,16 +74,16 @@ fn add_place<'s, 't, J: Naming>(
     alloc: Global,
     seat: &'s mut Seat<'t, J>,
     doors: &mut Doors,
-    places: &mut Places<'s, 't, J>,
-) -> Result<(), Fault<'static>> {
+    places: &mut SeatsWork<'s, 't, J>,
+) -> Result<(), RunFault<'static>> {
     let (door, turns) = crossbeam_channel::bounded(alloc, WAITING)?;
     doors.seats.push(door)?;
-    let desk = Desk {
+    let desk = SeatDesk {
         number: places.len(),
         turns,
         to: doors.to.clone()?,
     };
-    places.push(Mutex::new(Some(Place { seat, desk })))?;
+    places.push(Mutex::new(Some(SeatWork { seat, desk })))?;
     Ok(())
 }
 
@@ -93,16 +93,16 @@ fn serve_places<'t, J: Naming, R, I, H>(
     node: &Node<'_, J>,
     board: &Board<J>,
     facts: &Facts<'_>,
-    places: &Places<'_, 't, J>,
+    places: &SeatsWork<'_, 't, J>,
     doors: Doors,
     lines: Lines,
     input: &mut I,
     log: &Mutex<Option<KeptLog<H>>>,
-) -> Result<Ended<'static>, Fault<'static>>
+) -> Result<ServiceOutcome<'static>, RunFault<'static>>
 where
     R: AllocGlobal + Threads + Wait + Sync,
     I: Requests + Send,
-    H: Host<Fault = HostFault> + Drop,
+    H: Host<Failure = HostFault> + Drop,
 {
     let doors = Mutex::new(Some(doors));
     let lines = Mutex::new(Some(lines));
@@ -117,20 +117,20 @@ fn run_threads<'t, J: Naming, R, I, H>(
     node: &Node<'_, J>,
     board: &Board<J>,
     facts: &Facts<'_>,
-    places: &Places<'_, 't, J>,
+    places: &SeatsWork<'_, 't, J>,
     doors: &Mutex<Option<Doors>>,
     input: &Mutex<&mut I>,
     lines: &Mutex<Option<Lines>>,
     log: &Mutex<Option<KeptLog<H>>>,
-) -> Done
+) -> ServiceEnd
 where
     R: AllocGlobal + Threads + Wait + Sync,
     I: Requests + Send,
-    H: Host<Fault = HostFault> + Drop,
+    H: Host<Failure = HostFault> + Drop,
 {
     let outbox = &board.outbox;
     let growth = &board.growth;
-    thread::scope(thread::scope_env(), rt, move |scope| -> Done {
+    thread::scope(thread::scope_env(), rt, move |scope| -> ServiceEnd {
         let mut is_whole = true;
         for number in 0..places.len() {
             is_whole &= scope
@@ -151,9 +151,9 @@ where
 }
 
 /// Has the seats that run end, as nothing more can come.
-fn not_begun<R: Wait>(rt: &R, doors: &Mutex<Option<Doors>>) -> Done {
+fn not_begun<R: Wait>(rt: &R, doors: &Mutex<Option<Doors>>) -> ServiceEnd {
     drop(taken(rt, doors));
-    Err(Fault::NoThread)
+    Err(RunFault::NoThread)
 }
 
 /// Starts the thread that reads, if one can be made.
@@ -164,7 +164,7 @@ fn start_reader<'s, E, R, I>(
     growth: &'s Growth,
     doors: &'s Mutex<Option<Doors>>,
     input: &'s Mutex<&mut I>,
-) -> Option<JoinHandle<Asked>>
+) -> Option<JoinHandle<ReadEnd>>
 where
     R: AllocGlobal + Threads + Wait + Sync,
     I: Requests + Send,
@@ -186,7 +186,7 @@ fn run_seat<J: Naming, R>(
     node: &Node<'_, J>,
     board: &Board<J>,
     facts: &Facts<'_>,
-    place: Option<&Mutex<Option<Place<'_, '_, J>>>>,
+    place: Option<&Mutex<Option<SeatWork<'_, '_, J>>>>,
 )
 where
     R: AllocGlobal + Threads + Wait + Sync,
@@ -194,7 +194,7 @@ where
     let Some(place) = place else {
         return;
     };
-    if let Some(Place { seat, desk }) = taken(rt, place) {
+    if let Some(SeatWork { seat, desk }) = taken(rt, place) {
         answer_turns(rt, node, board, facts, &desk, seat);
     }
 }
@@ -206,7 +206,7 @@ fn run_reader<R, I>(
     growth: &Growth,
     doors: &Mutex<Option<Doors>>,
     input: &Mutex<&mut I>,
-) -> Asked
+) -> ReadEnd
 where
     R: AllocGlobal + Wait,
     I: Requests,
@@ -228,10 +228,10 @@ fn write_lines<R, H>(
     facts: &Facts<'_>,
     lines: &Mutex<Option<Lines>>,
     log: &Mutex<Option<KeptLog<H>>>,
-) -> Result<(), Fault<'static>>
+) -> Result<(), RunFault<'static>>
 where
     R: AllocGlobal + Wait,
-    H: Host<Fault = HostFault> + Drop,
+    H: Host<Failure = HostFault> + Drop,
 {
     let Some(mut lines) = taken(rt, lines) else {
         return Ok(());
@@ -253,15 +253,19 @@ where
 }
 
 /// How it ended, by who read, who wrote, and whether a seat had no memory.
-fn ended(read: Asked, written: Result<(), Fault<'static>>, is_short: bool) -> Ended<'static> {
+fn ended(
+    read: ReadEnd,
+    written: Result<(), RunFault<'static>>,
+    is_short: bool,
+) -> ServiceOutcome<'static> {
     let (stop, served) = match read {
         Ok(stop) => (stop, Ok(())),
         Err(error) => (None, Err(unread(error))),
     };
     let served = match (written, is_short) {
         (Err(fault), _) => Err(fault),
-        (Ok(()), true) => Err(Fault::Memory),
+        (Ok(()), true) => Err(RunFault::Memory),
         (Ok(()), false) => served,
     };
-    Ended { stop, served }
+    ServiceOutcome { stop, served }
 }

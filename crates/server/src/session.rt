@@ -5,20 +5,20 @@ ghost use Rattle.durable.specs.Log.{opened};
 
 use crate::delivery::tell_all;
 use crate::earlier::{Earlier, play_earlier, wasted};
-use crate::input_lines::{READ_AHEAD, Stop};
+use crate::input_lines::{READ_AHEAD, WhenIdle};
 use crate::node_faults::unopened;
 use crate::saves::{answer_saved, save_served};
 use crate::service::{serve_requests, taken};
 use crate::words::{Facts, SEATS};
 use console::datadir::{
-    Datadir, FileHost, HostFault, LOG, Setting, Unpacked, Verdict, lock_for_node, open_datadir,
-    read_lines,
+    Datadir, FileHost, HostFault, JudgedSignature, LOG, PlaySetting, Unpacked, lock_for_node,
+    open_datadir, read_lines,
 };
-use console::fault::Fault;
+use console::fault::RunFault;
 use console::files::{read_if_named, read_table_file};
 use console::options::{HEIGHTS, Saved, ServeOptions};
 use console::progress::Progress;
-use console::replay::{Inputs, commands, read_inputs};
+use console::replay::{SavedRun, commands, read_inputs};
 use console::report::Clients;
 use console::saves::{check_folder, read_invalid};
 use durable::{Host, KeptLog, Lost, whole_lines};
@@ -44,7 +44,7 @@ pub fn serve<'w, R, I, O, E>(
     input: &mut I,
     out: &mut O,
     err: &mut E,
-) -> Result<(), Fault<'w>>
+) -> Result<(), RunFault<'w>>
 where
     R: Files<File = File> + AllocGlobal + Clock + Threads + Wait + Sync,
     I: Read + Send,
@@ -73,17 +73,17 @@ fn serve_over<'w, R, I, E, H>(
     host: H,
     disk: Disk,
     streams: Streams<'_, I, E>,
-) -> Result<(), Fault<'w>>
+) -> Result<(), RunFault<'w>>
 where
     R: Files<File = File> + AllocGlobal + Clock + Threads + Wait + Sync,
     I: Read + Send,
     E: Write + IsTerminal,
-    H: Host<Fault = HostFault> + Drop,
+    H: Host<Failure = HostFault> + Drop,
     requires { H.calls host ≡ opened disk.bytes.items }
 {
     let alloc = rt.alloc();
     let Disk {
-        inputs: Inputs {
+        inputs: SavedRun {
             params,
             journal,
             blk,
@@ -121,7 +121,7 @@ where
 /// What a node begins with.
 #[derive(Drop)]
 struct Disk {
-    inputs: Inputs,
+    inputs: SavedRun,
     /// Where the history is kept.
     log: Option<File>,
     /// What the log holds.
@@ -131,7 +131,7 @@ struct Disk {
 }
 
 /// Reads what a node begins with, and locks the folder that is its own.
-fn open_disk<'w, R>(rt: &R, options: &ServeOptions<'w>) -> Result<Disk, Fault<'w>>
+fn open_disk<'w, R>(rt: &R, options: &ServeOptions<'w>) -> Result<Disk, RunFault<'w>>
 where
     R: Files<File = File> + AllocGlobal,
 {
@@ -151,9 +151,9 @@ where
 }
 
 /// What a node begins with whose history is kept.
-fn open_kept<'w, R: AllocGlobal>(rt: &R, datadir: Datadir) -> Result<Disk, Fault<'w>> {
+fn open_kept<'w, R: AllocGlobal>(rt: &R, datadir: Datadir) -> Result<Disk, RunFault<'w>> {
     let Datadir {
-        setting: Setting { params, table },
+        setting: PlaySetting { params, table },
         log,
         bytes,
         lock,
@@ -164,7 +164,7 @@ fn open_kept<'w, R: AllocGlobal>(rt: &R, datadir: Datadir) -> Result<Disk, Fault
         verdicts,
     } = read_lines(rt.alloc(), bytes.as_slice())?;
     Ok(Disk {
-        inputs: Inputs {
+        inputs: SavedRun {
             params,
             journal,
             blk,
@@ -178,7 +178,7 @@ fn open_kept<'w, R: AllocGlobal>(rt: &R, datadir: Datadir) -> Result<Disk, Fault
 }
 
 /// Locks the folder into which a node saves at its end.
-fn lock_to_save<'w, R>(rt: &R, folder: &'w str) -> Result<File, Fault<'w>>
+fn lock_to_save<'w, R>(rt: &R, folder: &'w str) -> Result<File, RunFault<'w>>
 where
     R: Files<File = File> + AllocGlobal,
 {
@@ -210,9 +210,9 @@ fn read_earlier<'w, 't, R>(
     options: &ServeOptions<'w>,
     journal: &'t [u8],
     records: &[u8],
-    verdicts: Vec<Verdict>,
+    verdicts: Vec<JudgedSignature>,
     (valid, invalid): (String, Vec<u8>),
-) -> Result<Earlier<'t>, Fault<'w>>
+) -> Result<Earlier<'t>, RunFault<'w>>
 where
     R: Files<File = File> + AllocGlobal,
 {
@@ -235,7 +235,7 @@ fn read_known<'w, R>(
     rt: &R,
     options: &ServeOptions<'w>,
     table: &Table,
-) -> Result<(String, Vec<u8>), Fault<'w>>
+) -> Result<(String, Vec<u8>), RunFault<'w>>
 where
     R: Files<File = File> + AllocGlobal,
 {
@@ -259,12 +259,12 @@ fn serve_and_save<'w, R, I, E, H>(
     table: &Arc<Table>,
     streams: Streams<'_, I, E>,
     log: &Mutex<Option<KeptLog<H>>>,
-) -> Result<(), Fault<'w>>
+) -> Result<(), RunFault<'w>>
 where
     R: Files<File = File> + AllocGlobal + Clock + Threads + Wait + Sync,
     I: Read + Send,
     E: Write + IsTerminal,
-    H: Host<Fault = HostFault> + Drop,
+    H: Host<Failure = HostFault> + Drop,
 {
     let mut facts = facts;
     let opening = if facts.is_by_need {
@@ -277,7 +277,7 @@ where
         fits,
         ended,
     } = serve_at_node::<Brand, R, I, E, H>(rt, opening, gate, earlier, &mut facts, streams, log)?;
-    let Ended { stop, served } = ended?;
+    let ServiceOutcome { stop, served } = ended?;
     let steps = entries.len() as u64;
     let kept = keep_rest(rt, &facts, entries.as_slice(), log);
     let saved = match options.save {
@@ -297,13 +297,13 @@ fn keep_rest<R, H>(
     facts: &Facts<'_>,
     entries: &[Entry],
     log: &Mutex<Option<KeptLog<H>>>,
-) -> Result<KeptLog<H>, Fault<'static>>
+) -> Result<KeptLog<H>, RunFault<'static>>
 where
     R: AllocGlobal + Wait,
-    H: Host<Fault = HostFault> + Drop,
+    H: Host<Failure = HostFault> + Drop,
 {
     let Some(log) = taken(rt, log) else {
-        return Err(Fault::Closed);
+        return Err(RunFault::Closed);
     };
     if !facts.is_kept {
         return Ok(log);
@@ -316,16 +316,16 @@ where
 }
 
 /// The folder of an earlier run, or none of its steps under these heights and this table.
-fn inputs<'w, R>(rt: &R, options: &ServeOptions<'w>) -> Result<Inputs, Fault<'w>>
+fn inputs<'w, R>(rt: &R, options: &ServeOptions<'w>) -> Result<SavedRun, RunFault<'w>>
 where
     R: Files<File = File> + AllocGlobal,
 {
     if let Some(folder) = options.load {
         return read_inputs(rt, &Saved::Folder(folder));
     }
-    let params = read_heights(options.heights.unwrap_or(HEIGHTS)).ok_or(Fault::Heights)?;
+    let params = read_heights(options.heights.unwrap_or(HEIGHTS)).ok_or(RunFault::Heights)?;
     let table = read_table_file(rt, options.table)?;
-    Ok(Inputs {
+    Ok(SavedRun {
         params,
         journal: Vec::new(rt.alloc()),
         blk: Vec::new(rt.alloc()),
@@ -335,7 +335,7 @@ where
 }
 
 /// The clients of an earlier run, and the seats.
-fn clients<'t>(alloc: Global, earlier: &Earlier<'t>) -> Result<Clients<'t>, Fault<'static>> {
+fn clients<'t>(alloc: Global, earlier: &Earlier<'t>) -> Result<Clients<'t>, RunFault<'static>> {
     let mut names = Vec::new(alloc);
     for step in earlier.steps.as_slice() {
         names.push(step.client)?;
@@ -355,16 +355,16 @@ fn clients<'t>(alloc: Global, earlier: &Earlier<'t>) -> Result<Clients<'t>, Faul
 struct Served<'f> {
     entries: Vec<Entry>,
     /// That a seat doesn't fit them, if one doesn't.
-    fits: Result<(), Fault<'f>>,
-    ended: Result<Ended<'f>, Fault<'f>>,
+    fits: Result<(), RunFault<'f>>,
+    ended: Result<ServiceOutcome<'f>, RunFault<'f>>,
 }
 
 /// How the service ended that had begun.
 #[derive(Drop)]
-pub struct Ended<'f> {
+pub struct ServiceOutcome<'f> {
     /// What was asked for that stopped it.
-    pub stop: Option<Stop>,
-    pub served: Result<(), Fault<'f>>,
+    pub stop: Option<WhenIdle>,
+    pub served: Result<(), RunFault<'f>>,
 }
 
 /// Serves at a node of this opening. The prover picks the node's name where this is called.
@@ -376,12 +376,12 @@ fn serve_at_node<'f, J: Naming, R, I, E, H>(
     facts: &mut Facts<'_>,
     streams: Streams<'_, I, E>,
     log: &Mutex<Option<KeptLog<H>>>,
-) -> Result<Served<'f>, Fault<'f>>
+) -> Result<Served<'f>, RunFault<'f>>
 where
     R: Files<File = File> + AllocGlobal + Clock + Threads + Wait + Sync,
     I: Read + Send,
     E: Write + IsTerminal,
-    H: Host<Fault = HostFault> + Drop,
+    H: Host<Failure = HostFault> + Drop,
     requires { opening ≡ J.origin }
 {
     let (node, mut seats) = Node::<J>::open(rt.alloc(), opening, facts.workers, gate).map_err(
@@ -398,7 +398,7 @@ where
     // The process ends soon: what is published isn't freed.
     let (entries, fits) = match node.finish(seats.as_mut_slice()) {
         Ok(entries) => (entries, Ok(())),
-        Err(EndFault { history }) => (history, Err(Fault::Closed)),
+        Err(EndFault { history }) => (history, Err(RunFault::Closed)),
     };
     Ok(Served {
         entries,
@@ -415,26 +415,28 @@ fn serve_seats<J: Naming, R, I, H>(
     facts: &Facts<'_>,
     input: &mut I,
     log: &Mutex<Option<KeptLog<H>>>,
-) -> Result<Ended<'static>, Fault<'static>>
+) -> Result<ServiceOutcome<'static>, RunFault<'static>>
 where
     R: Files<File = File> + AllocGlobal + Threads + Wait + Sync,
     I: Read + Send,
-    H: Host<Fault = HostFault> + Drop,
+    H: Host<Failure = HostFault> + Drop,
 {
     let Ok(mut lines) = BufReader::with_capacity(rt.alloc(), READ_AHEAD, &mut *input) else {
-        return Err(Fault::Memory);
+        return Err(RunFault::Memory);
     };
     for _ in 0..u64::MAX {
-        let Ended { stop, served } = serve_requests(rt, node, seats, facts, &mut lines, log)?;
+        let ServiceOutcome { stop, served } = serve_requests(
+            rt, node, seats, facts, &mut lines, log,
+        )?;
         if served.is_err() {
-            return Ok(Ended { stop, served });
+            return Ok(ServiceOutcome { stop, served });
         }
         match stop {
-            Some(Stop::Save(blank)) => answer_saved(rt, facts, seats, blank, log)?,
-            stop => return Ok(Ended { stop, served }),
+            Some(WhenIdle::Save(blank)) => answer_saved(rt, facts, seats, blank, log)?,
+            stop => return Ok(ServiceOutcome { stop, served }),
         }
     }
-    Err(Fault::Closed)
+    Err(RunFault::Closed)
 }
 
 /// Plays what was earlier at a seat, and says on a terminal how far it is.
@@ -445,7 +447,7 @@ fn play_watched<J: Naming, R, E>(
     earlier: &Earlier<'_>,
     clients: &mut Clients<'_>,
     err: &mut E,
-) -> Result<(), Fault<'static>>
+) -> Result<(), RunFault<'static>>
 where
     R: AllocGlobal + Clock + Threads + Wait + Sync,
     E: Write + IsTerminal,
@@ -460,16 +462,16 @@ where
 /// Answers the request that asked for the end, if one did, where the history is kept.
 fn tell_end<H>(
     alloc: Global,
-    stop: Option<Stop>,
+    stop: Option<WhenIdle>,
     steps: u64,
     is_saved: bool,
-    kept: Result<KeptLog<H>, Fault<'static>>,
-) -> Result<(), Fault<'static>>
+    kept: Result<KeptLog<H>, RunFault<'static>>,
+) -> Result<(), RunFault<'static>>
 where
-    H: Host<Fault = HostFault> + Drop,
+    H: Host<Failure = HostFault> + Drop,
 {
     let log = kept?;
-    let Some(Stop::Finish(id)) = stop else {
+    let Some(WhenIdle::Finish(id)) = stop else {
         return Ok(());
     };
     let line = end_line(alloc, &id, steps, is_saved)?;
@@ -477,7 +479,7 @@ where
     let answers = vec![in alloc; durable::Answer { stamp, line }]?;
     match log.round(&answers) {
         Ok((_log, _went)) => Ok(()),
-        Err(Lost { fault, host: _host }) => Err(Fault::from(fault)),
+        Err(Lost { fault, host: _host }) => Err(RunFault::from(fault)),
     }
 }
 

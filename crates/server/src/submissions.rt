@@ -17,7 +17,7 @@ use wire::LIMIT;
 
 /// A block's bytes, and the moment at which they are submitted.
 #[derive(Drop)]
-pub struct Submission {
+pub struct TimedBlock {
     pub block: Vec<u8>,
     /// In seconds since 1970.
     pub now: u64,
@@ -30,7 +30,7 @@ pub fn submitted<J: Naming, R>(
     node: &Node<'_, J>,
     waste: &Waste,
     blank: Blank,
-    submission: Submission,
+    submission: TimedBlock,
     seat: &mut Seat<'_, J>,
 ) -> Result<Vec<u8>, AllocError>
 where
@@ -53,7 +53,7 @@ fn judged_first<J: Naming, R>(
     node: &Node<'_, J>,
     waste: &Waste,
     blank: Blank,
-    submission: Submission,
+    submission: TimedBlock,
     seat: &mut Seat<'_, J>,
 ) -> Result<Vec<u8>, AllocError>
 where
@@ -79,7 +79,7 @@ fn taken<J: Naming, R>(
     node: &Node<'_, J>,
     waste: &Waste,
     blank: Blank,
-    submission: Submission,
+    submission: TimedBlock,
     seat: &mut Seat<'_, J>,
 ) -> Result<Vec<u8>, AllocError>
 where
@@ -98,7 +98,7 @@ where
 fn submit<J: Naming, R>(
     rt: &R,
     node: &Node<'_, J>,
-    submission: Submission,
+    submission: TimedBlock,
     seat: &mut Seat<'_, J>,
 ) -> Result<node::Stamped<SubmitReply>, node::Fault>
 where
@@ -109,7 +109,7 @@ where
     ensures fault { let asked = command.Submit submission.block.items submission.now in
         IfErr result (IsWriteFault seat.old seat.new asked) }
 {
-    let Submission { block, now } = submission;
+    let TimedBlock { block, now } = submission;
     seat.submit_bytes(rt, node, Bytes::from_vec(rt.alloc(), block)?, now)
 }
 

@@ -360,7 +360,8 @@ impl Object {
 
     /// Whether a coinbase made an output.
     fn origin(&mut self, output: &Output<'_>) -> Result<(), AllocError>
-        ensures { Adds result self.old self.new (key (codes "coinbase") ∷ boolean output.now.coinbase ∷ []) }
+        ensures { Adds result self.old self.new
+            (key (codes "coinbase") ∷ boolean output.now.coinbase ∷ []) }
     {
         if output.coinbase {
             self.flag("coinbase", true)
@@ -371,7 +372,8 @@ impl Object {
 
     /// Bytes in hexadecimal digits.
     fn bytes(&mut self, alloc: Global, name: &str, bytes: &[u8]) -> Result<(), AllocError>
-        ensures { Adds result self.old self.new (key name.now ∷ string (encode_lower bytes.now) ∷ []) }
+        ensures { Adds result self.old self.new
+            (key name.now ∷ string (encode_lower bytes.now) ∷ []) }
     {
         self.text(name, hex::encode(alloc, bytes)?.as_str())
     }

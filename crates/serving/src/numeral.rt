@@ -17,7 +17,8 @@ pub struct Numeral {
 impl Numeral {
     /// The number that this text spells. None where it spells none.
     pub(crate) fn read(alloc: Global, text: &str) -> Result<Option<Numeral>, AllocError>
-        ensures found { IfOk result (λ n. IfSome n (λ numeral. string_bytes numeral.text ≡ text.now)) }
+        ensures found { IfOk result (λ n.
+            IfSome n (λ numeral. string_bytes numeral.text ≡ text.now)) }
         ensures none { result ≡ Ok None → ¬ IsNumber text.now }
     {
         if !is_number(text) {

@@ -57,7 +57,8 @@ impl Object {
     }
 
     pub fn signed(&mut self, name: &str, value: i64) -> Result<(), AllocError>
-        ensures { Adds result self.old self.new (key name.now ∷ number (signed_decimal value) ∷ []) }
+        ensures { Adds result self.old self.new
+            (key name.now ∷ number (signed_decimal value) ∷ []) }
     {
         self.writer.key(name)?;
         self.writer.i64(value)

@@ -69,7 +69,8 @@ impl<'p, 'l> Params<'p, 'l> {
     /// Bytes in hexadecimal digits.
     pub(crate) fn bytes(&self, alloc: Global, name: &'static str) -> Result<Vec<u8>, Refusal>
         ensures ok { IfOk result (λ bytes. AreBytes name.now (given self.now) bytes.items) }
-        ensures err { IfErr result (λ why. (why ≡ refusals.Memory) ⊎ ((why ≡ refusals.Param name.entry)
+        ensures err { IfErr result (λ why. (why ≡ refusals.Memory)
+            ⊎ ((why ≡ refusals.Param name.entry)
             × ((bytes : List ℕ) → ¬ AreBytes name.now (given self.now) bytes))) }
     {
         let found = self.get(name).ok_or(Refusal::Param(name))?;

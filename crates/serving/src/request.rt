@@ -145,7 +145,8 @@ fn asked_of(alloc: Global, value: &Value<'_>, seats: usize) -> Result<Asked, All
 
 /// The method of a request with these parameters. None where it is no request.
 fn method_of<'l>(value: &Value<'l>, params: Option<&Value<'l>>) -> Option<&'l str>
-    requires { option_map (λ v. value_view v.now) params ≡ get (codes "params") (value_view value.now) }
+    requires { option_map (λ v. value_view v.now) params
+        ≡ get (codes "params") (value_view value.now) }
     ensures some { IfSome result (λ name. IsRequest (value_view value.now) name.now) }
     ensures none { result ≡ None → (name : List ℕ) → ¬ IsRequest (value_view value.now) name }
 {

@@ -6,8 +6,8 @@ use Rattle.std.proofs.lemmas.Bool.{cases_eq, eq-eqb, ne_eqb}
 use Rattle.std.proofs.lemmas.List.{get_or_default, get_or-set_same, get_or-set_other, append_assoc}
 use Rattle.hash.specs.declared.id.Id.{Id}
 use Rattle.block.specs.declared.block.Block.{Block}
-use Rattle.tree.specs.declared.node.Node.{Node}
-use Rattle.tree.specs.declared.node.Mark.{Mark}
+use Rattle.tree.specs.declared.block_index.BlockIndex.{BlockIndex}
+use Rattle.tree.specs.declared.block_index.Mark.{Mark}
 use Rattle.tree.specs.Branches.{Blocks, has, branch, on, parent_at}
 use Rattle.tree.specs.State.{State, has_no_mark, rank, rank_in}
 use Rattle.tree.specs.Nodes.{blocks_of, blank, mark_at, places_where, state_of}
@@ -57,7 +57,7 @@ module _ (ms : List Mark) (p : ℕ) (m n : Mark) (h : p < length ms) (e : m ≡ 
 -- ---- states
 
 -- a state from its parts
-pub made : (ns : List Node) (ms : List Mark) (cs : List ℕ) {t : Blocks Block} {bad seen precious : List ℕ} → blocks_of ns ≡ t → places_where (λ m. m.bad) ms ≡ bad → places_where (λ m. m.seen) ms ≡ seen → reverse cs ≡ precious
+pub made : (ns : List BlockIndex) (ms : List Mark) (cs : List ℕ) {t : Blocks Block} {bad seen precious : List ℕ} → blocks_of ns ≡ t → places_where (λ m. m.bad) ms ≡ bad → places_where (λ m. m.seen) ms ≡ seen → reverse cs ≡ precious
     → state_of ns ms cs ≡ record { blocks = t; bad = bad; seen = seen; precious = precious }
 unfolding state_of
 made ns ms cs {t} {bad} {seen} {precious} a b c d =
@@ -84,11 +84,11 @@ usable_alike s t p e f =
     ∙ ap (λ (l : List ℕ). Rattle.std.specs.List.list_all (λ x. not (has t.bad x)) l) (ap (λ (u : Blocks Block). branch u p) e)
 
 -- neither the sights nor the calls matter
-pub usable_bare : (ns : List Node) (ms : List Mark) (cs ds : List ℕ) (p : ℕ) → has_no_mark (state_of ns ms cs) p ≡ has_no_mark (state_of ns ms ds) p
+pub usable_bare : (ns : List BlockIndex) (ms : List Mark) (cs ds : List ℕ) (p : ℕ) → has_no_mark (state_of ns ms cs) p ≡ has_no_mark (state_of ns ms ds) p
 unfolding has_no_mark state_of
 usable_bare ns ms cs ds p = refl
 
-module _ (ns : List Node) (ms ls : List Mark) (some : 0 < length ns) (same : length ms ≡ length ns) (also : length ls ≡ length ns) where
+module _ (ns : List BlockIndex) (ms ls : List Mark) (some : 0 < length ns) (same : length ms ≡ length ns) (also : length ls ≡ length ns) where
   kept : suc (length (blocks_of ns)) ≡ length ns
   kept = length-blocks ns some
 
@@ -119,13 +119,13 @@ module _ (ns : List Node) (ms ls : List Mark) (some : 0 < length ns) (same : len
       ∙ ap (λ b. not b && has_no_mark (state_of ns ms []) (parent_at (blocks_of ns) p)) (has-where (λ m. m.bad) ms p (omega arith))
 
 -- genesis is usable where it isn't marked
-pub usable_zero : (ns : List Node) (ms : List Mark) → 0 < length ms → (mark_at ms 0).bad ≡ false → has_no_mark (state_of ns ms []) 0 ≡ true
+pub usable_zero : (ns : List BlockIndex) (ms : List Mark) → 0 < length ms → (mark_at ms 0).bad ≡ false → has_no_mark (state_of ns ms []) 0 ≡ true
 unfolding state_of
 usable_zero ns ms h e = usable-genesis (state_of ns ms []) ∙ ap (λ b. not b && true) (has-where (λ m. m.bad) ms 0 h ∙ e)
 
 -- ---- a right tree with other marks
 
-module _ {ns : List Node} {ms : List Mark} {cs : List ℕ} {is : List (Id × ℕ)} {ls : List ℕ} (right : IsRight ns ms cs is ls) where
+module _ {ns : List BlockIndex} {ms : List Mark} {cs : List ℕ} {is : List (Id × ℕ)} {ls : List ℕ} (right : IsRight ns ms cs is ls) where
   pub right-usable : AreUsable (state_of ns ms []) ms (length ns)
   right-usable p h = (right.are_marks p h).usable ∙ usable_bare ns ms cs [] p
 
@@ -152,20 +152,20 @@ module _ {ns : List Node} {ms : List Mark} {cs : List ℕ} {is : List (Id × ℕ
 -- ---- nodes
 
 -- a node's parent comes before it
-pub parent_before : (ns : List Node) (p : ℕ) (n : Node) → AreNodes (blocks_of ns) ns → 0 < p → p < length ns → n ≡ get_or ns p n → (n.parent ≡ parent_at (blocks_of ns) p) × (n.parent < p)
+pub parent_before : (ns : List BlockIndex) (p : ℕ) (n : BlockIndex) → AreNodes (blocks_of ns) ns → 0 < p → p < length ns → n ≡ get_or ns p n → (n.parent ≡ parent_at (blocks_of ns) p) × (n.parent < p)
 parent_before ns p n nodes z h e =
     let k = length-blocks ns (omega arith) in
     let q = (subst (IsNode (blocks_of ns) p) (sym e) (nodes p n h)).parent in
     let b = Rattle.tree.specs.laws.Parents.parent-below (blocks_of ns) p z (omega arith) in
     (q, omega arith)
 
-pub branch_down : (ns : List Node) (p : ℕ) (n : Node) → AreNodes (blocks_of ns) ns → 0 < p → p < length ns → n ≡ get_or ns p n → ◌≡◌ {A = List ℕ} (branch (blocks_of ns) p) (p ∷ branch (blocks_of ns) n.parent)
+pub branch_down : (ns : List BlockIndex) (p : ℕ) (n : BlockIndex) → AreNodes (blocks_of ns) ns → 0 < p → p < length ns → n ≡ get_or ns p n → ◌≡◌ {A = List ℕ} (branch (blocks_of ns) p) (p ∷ branch (blocks_of ns) n.parent)
 branch_down ns p n nodes z h e =
     let k = length-blocks ns (omega arith) in
     Rattle.tree.specs.laws.Parents.branch-parent (blocks_of ns) p z (omega arith) ∙ ap (λ (q : ℕ). p ∷ branch (blocks_of ns) q) (sym (parent_before ns p n nodes z h e).0)
 
 -- one step of a walk that keeps the places
-pub walk_on : (ns : List Node) (items new : List ℕ) (p : ℕ) (n : Node) → AreNodes (blocks_of ns) ns → 0 < p → p < length ns → n ≡ get_or ns p n → ◌≡◌ {A = List ℕ} new (items ++ p ∷ [])
+pub walk_on : (ns : List BlockIndex) (items new : List ℕ) (p : ℕ) (n : BlockIndex) → AreNodes (blocks_of ns) ns → 0 < p → p < length ns → n ≡ get_or ns p n → ◌≡◌ {A = List ℕ} new (items ++ p ∷ [])
     → ◌≡◌ {A = List ℕ} (new ++ branch (blocks_of ns) n.parent) (items ++ branch (blocks_of ns) p)
 walk_on ns items new p n nodes z h e g =
     ap (λ (l : List ℕ). l ++ branch (blocks_of ns) n.parent) g ∙ append_assoc items (p ∷ []) (branch (blocks_of ns) n.parent)
@@ -173,7 +173,7 @@ walk_on ns items new p n nodes z h e g =
 
 -- ---- what is seen of it
 
-module _ (ns : List Node) (ms : List Mark) (cs : List ℕ) {s : State Block} (view : state_of ns ms cs ≡ s) where
+module _ (ns : List BlockIndex) (ms : List Mark) (cs : List ℕ) {s : State Block} (view : state_of ns ms cs ≡ s) where
   pub blocks-view : ◌≡◌ {A = Blocks Block} (blocks_of ns) s.blocks
   unfolding state_of
   blocks-view = ap (λ (t : State Block). t.blocks) view
@@ -191,7 +191,7 @@ module _ (ns : List Node) (ms : List Mark) (cs : List ℕ) {s : State Block} (vi
   precious-view = ap (λ (t : State Block). t.precious) view
 
 -- a right tree whose marks of invalid blocks stay
-pub right_flags : {ns : List Node} {ms : List Mark} {cs : List ℕ} {is : List (Id × ℕ)} {ls : List ℕ} (right : IsRight ns ms cs is ls) (new : List Mark) (ds : List ℕ) → length new ≡ length ns
+pub right_flags : {ns : List BlockIndex} {ms : List Mark} {cs : List ℕ} {is : List (Id × ℕ)} {ls : List ℕ} (right : IsRight ns ms cs is ls) (new : List Mark) (ds : List ℕ) → length new ≡ length ns
     → ((p : ℕ) → (mark_at new p).bad ≡ (mark_at ms p).bad) → ((p : ℕ) → (mark_at new p).usable ≡ (mark_at ms p).usable)
     → ((p : ℕ) → p < length ns → (mark_at new p).rank ≡ rank_in (reverse ds) p) → ((p : ℕ) → length ns ≤ p → has (reverse ds) p ≡ false) → IsRight ns new ds is ls
 right_flags {ns} {ms} right new ds e b u k c =

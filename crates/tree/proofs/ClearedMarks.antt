@@ -6,8 +6,8 @@ use Rattle.std.proofs.lemmas.Bool.{cases_eq, eq-eqb, ne_eqb, lt-ltb}
 use Rattle.std.proofs.lemmas.List.{get_or-set_same, get_or-set_other}
 use Rattle.std.specs.List.{filter}
 use Rattle.block.specs.declared.block.Block.{Block}
-use Rattle.tree.specs.declared.node.Node.{Node}
-use Rattle.tree.specs.declared.node.Mark.{Mark}
+use Rattle.tree.specs.declared.block_index.BlockIndex.{BlockIndex}
+use Rattle.tree.specs.declared.block_index.Mark.{Mark}
 use Rattle.tree.specs.Branches.{Blocks, has, on, down_from}
 use Rattle.tree.specs.Nodes.{blocks_of, mark_at, places_where}
 use Rattle.tree.specs.inside.Nodes.{AreNodes}
@@ -20,12 +20,12 @@ on_zero : (t : Blocks Block) (x : ℕ) → on t 0 x ≡ (eqb 0 x || false)
 unfolding on
 on_zero t x = ap (λ (l : List ℕ). has l x) (branch-genesis t)
 
-on_down : (ns : List Node) (p : ℕ) (n : Node) (x : ℕ) → AreNodes (blocks_of ns) ns → 0 < p → p < length ns → n ≡ get_or ns p n → on (blocks_of ns) p x ≡ (eqb p x || on (blocks_of ns) n.parent x)
+on_down : (ns : List BlockIndex) (p : ℕ) (n : BlockIndex) (x : ℕ) → AreNodes (blocks_of ns) ns → 0 < p → p < length ns → n ≡ get_or ns p n → on (blocks_of ns) p x ≡ (eqb p x || on (blocks_of ns) n.parent x)
 unfolding on
 on_down ns p n x nodes z h e = ap (λ (l : List ℕ). has l x) (branch_down ns p n nodes z h e)
 
 -- a block stands on another where it is that one, or its parent stands on it
-pub stands : (ns : List Node) (p : ℕ) (n : Node) (place : ℕ) (b : Bool) → AreNodes (blocks_of ns) ns → p < length ns → n ≡ get_or ns p n → (0 < p → b ≡ on (blocks_of ns) n.parent place) → (eqb p place || (ltb 0 p && b)) ≡ on (blocks_of ns) p place
+pub stands : (ns : List BlockIndex) (p : ℕ) (n : BlockIndex) (place : ℕ) (b : Bool) → AreNodes (blocks_of ns) ns → p < length ns → n ≡ get_or ns p n → (0 < p → b ≡ on (blocks_of ns) n.parent place) → (eqb p place || (ltb 0 p && b)) ≡ on (blocks_of ns) p place
 stands ns p n place b nodes h e f =
     elim (cases_eq 0 p) [
       | inl z ↦ subst (λ (q : ℕ). (eqb q place || (ltb 0 q && b)) ≡ on (blocks_of ns) q place) z (sym (on_zero (blocks_of ns) place))
@@ -60,12 +60,12 @@ or_none true b = refl
 or_none false b = refl
 
 -- a walk down that sets flags
-pub up_end : (ns : List Node) (flags : List Bool) (p x : ℕ) (all : Bool) → p ≡ 0 → p < length flags → (on (blocks_of ns) p x || get_or flags x false) ≡ all → get_or (set flags p true) x false ≡ all
+pub up_end : (ns : List BlockIndex) (flags : List Bool) (p x : ℕ) (all : Bool) → p ≡ 0 → p < length flags → (on (blocks_of ns) p x || get_or flags x false) ≡ all → get_or (set flags p true) x false ≡ all
 up_end ns flags p x all z h e =
     flag_set flags p x h ∙ or_none (eqb p x) (get_or flags x false)
     ∙ ap (λ (v : Bool). v || get_or flags x false) (ap (λ (q : ℕ). eqb q x || false) z ∙ sym (on_zero (blocks_of ns) x) ∙ ap (λ (q : ℕ). on (blocks_of ns) q x) (sym z)) ∙ e
 
-pub up_on : (ns : List Node) (flags : List Bool) (p : ℕ) (n : Node) (x : ℕ) (all : Bool) → AreNodes (blocks_of ns) ns → 0 < p → p < length ns → p < length flags → n ≡ get_or ns p n → (on (blocks_of ns) p x || get_or flags x false) ≡ all
+pub up_on : (ns : List BlockIndex) (flags : List Bool) (p : ℕ) (n : BlockIndex) (x : ℕ) (all : Bool) → AreNodes (blocks_of ns) ns → 0 < p → p < length ns → p < length flags → n ≡ get_or ns p n → (on (blocks_of ns) p x || get_or flags x false) ≡ all
     → (on (blocks_of ns) n.parent x || get_or (set flags p true) x false) ≡ all
 up_on ns flags p n x all nodes z h l e f =
     ap (λ (v : Bool). on (blocks_of ns) n.parent x || v) (flag_set flags p x l)

@@ -5,8 +5,8 @@ use Rattle.std.specs.Cmp.Lexicographic.{texts_ties}
 use Rattle.locks.specs.MedianTime.{median_of, is_middle}
 use Rattle.hash.specs.declared.id.Id.{Id}
 use Rattle.block.specs.declared.block.Block.{Block}
-use Rattle.tree.specs.declared.node.Node.{Node}
-use Rattle.tree.specs.declared.node.Mark.{Mark}
+use Rattle.tree.specs.declared.block_index.BlockIndex.{BlockIndex}
+use Rattle.tree.specs.declared.block_index.Mark.{Mark}
 use Rattle.tree.specs.Branches.{down_from, branch, before, height, parent_at, block_at, id_at, place_of}
 use Rattle.tree.specs.State.{opening, has_no_mark, rank, rank_in}
 use Rattle.tree.specs.MedianTime.{median_time_past}
@@ -16,7 +16,7 @@ use Rattle.tree.specs.Nodes.{IsMark, blocks_of, mark_at, places_where, state_of}
 use Rattle.tree.specs.inside.Nodes.{IsNode, IsRight, first_node, first_mark}
 use Rattle.tree.specs.inside.Leaves.{AreLeaves}
 
-abbrev nodes : List Node
+abbrev nodes : List BlockIndex
 nodes = first_node ∷ []
 
 abbrev marks : List Mark
@@ -50,7 +50,7 @@ right_opened ids leaves f g = record {
   are_leaves = g;
 }
   where
-    at_zero : (p : ℕ) (d : Node) → p ≡ 0 → IsNode [] p (get_or nodes p d)
+    at_zero : (p : ℕ) (d : BlockIndex) → p ≡ 0 → IsNode [] p (get_or nodes p d)
     at_zero p d e = subst (λ (q : ℕ). IsNode [] q (get_or nodes q d)) (sym e) node_zero
 
     mark_at_zero : (p : ℕ) → p ≡ 0 → IsMark (state_of nodes marks []) p (mark_at marks p)

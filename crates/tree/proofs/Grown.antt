@@ -11,8 +11,8 @@ use Rattle.std.specs.Cmp.Lexicographic.{texts_ties}
 use Rattle.hash.specs.declared.id.Id.{Id}
 use Rattle.block.specs.declared.block.Block.{Block}
 use Rattle.block.specs.Identity.{id_of}
-use Rattle.tree.specs.declared.node.Node.{Node}
-use Rattle.tree.specs.declared.node.Mark.{Mark}
+use Rattle.tree.specs.declared.block_index.BlockIndex.{BlockIndex}
+use Rattle.tree.specs.declared.block_index.Mark.{Mark}
 use Rattle.tree.specs.Branches.{Kept, Blocks, has, place_of, down_from}
 use Rattle.tree.specs.State.{State, has_no_mark, rank, with_block}
 use Rattle.tree.specs.Limits.{max_blocks}
@@ -30,7 +30,7 @@ use Rattle.tree.specs.laws.Leaves.{leaves_grown}
 use Rattle.tree.proofs.Views.{kept, length-blocks, blocks-push, has_where-above}
 use Rattle.tree.proofs.Changes.{made, bad-view, seen-view, precious-view}
 
-node_there : (t : Blocks Block) (k : Kept Block) (p : ℕ) (n : Node) → p ≤ length t → IsNode t p n → IsNode (k ∷ t) p n
+node_there : (t : Blocks Block) (k : Kept Block) (p : ℕ) (n : BlockIndex) → p ≤ length t → IsNode t p n → IsNode (k ∷ t) p n
 node_there t k p n h is = record {
   block = is.block ∙ sym (block_there names k t p h);
   id = is.id ∙ sym (id_there names k t p h);
@@ -61,12 +61,12 @@ where_push f ms m z e =
         ap (λ (q : ℕ). f (mark_at (ms ++ m ∷ []) q)) last-is ∙ ap f (get_or-append_seam ms m [] blank) ∙ e
 
 -- what is seen of the nodes and marks with one more
-pub state_pushed : (ns : List Node) (ms : List Mark) (cs : List ℕ) (n : Node) (m : Mark) → 0 < length ns → length ms ≡ length ns → m.bad ≡ false → m.seen ≡ false → state_of (ns ++ n ∷ []) (ms ++ m ∷ []) cs ≡ with_block (state_of ns ms cs) n.block n.parent
+pub state_pushed : (ns : List BlockIndex) (ms : List Mark) (cs : List ℕ) (n : BlockIndex) (m : Mark) → 0 < length ns → length ms ≡ length ns → m.bad ≡ false → m.seen ≡ false → state_of (ns ++ n ∷ []) (ms ++ m ∷ []) cs ≡ with_block (state_of ns ms cs) n.block n.parent
 unfolding state_of
 state_pushed ns ms cs n m z l b g =
     made (ns ++ n ∷ []) (ms ++ m ∷ []) cs (blocks-push ns n z) (where_push (λ x. x.bad) ms m (omega arith) b) (where_push (λ x. x.seen) ms m (omega arith) g) refl
 
-module _ {ns : List Node} {ms : List Mark} {cs : List ℕ} {is : List (Id × ℕ)} {ls : List ℕ} (right : IsRight ns ms cs is ls) (n : Node) (m : Mark) where
+module _ {ns : List BlockIndex} {ms : List Mark} {cs : List ℕ} {is : List (Id × ℕ)} {ls : List ℕ} (right : IsRight ns ms cs is ls) (n : BlockIndex) (m : Mark) where
   abbrev t : Blocks Block
   t = blocks_of ns
 

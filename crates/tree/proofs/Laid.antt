@@ -5,8 +5,8 @@ use Rattle.std.proofs.Math.ListN.{set}
 use Rattle.std.proofs.lemmas.List.{length-set}
 use Rattle.hash.specs.declared.id.Id.{Id}
 use Rattle.block.specs.declared.block.Block.{Block}
-use Rattle.tree.specs.declared.node.Node.{Node}
-use Rattle.tree.specs.declared.node.Mark.{Mark}
+use Rattle.tree.specs.declared.block_index.BlockIndex.{BlockIndex}
+use Rattle.tree.specs.declared.block_index.Mark.{Mark}
 use Rattle.tree.specs.Branches.{Blocks, has, branch, on, places}
 use Rattle.tree.specs.State.{State, beats, union_where, has_no_mark, rank, with_mark, with_seen, without_marks}
 use Rattle.tree.specs.Nodes.{AreMarks, blocks_of, mark_at, laid, places_where, state_of}
@@ -27,9 +27,9 @@ unfolding beats rank
 better_laid s ms a b = refl
 
 -- what holds of lists that were lent holds of those that lent them
-pub of_lent : {ns nodes : List Node} {ms lent : List Mark} (new : List Mark) (bad : ℕ → Bool → Bool) → nodes ≡ ns → lent ≡ ms → AreRemarked nodes lent new bad → AreRemarked ns ms new bad
+pub of_lent : {ns nodes : List BlockIndex} {ms lent : List Mark} (new : List Mark) (bad : ℕ → Bool → Bool) → nodes ≡ ns → lent ≡ ms → AreRemarked nodes lent new bad → AreRemarked ns ms new bad
 of_lent {ns} {lent = lent} new bad nodes-are lent-are is =
-    subst (λ (l : List Mark). AreRemarked ns l new bad) lent-are (subst (λ (l : List Node). AreRemarked l lent new bad) nodes-are is)
+    subst (λ (l : List Mark). AreRemarked ns l new bad) lent-are (subst (λ (l : List BlockIndex). AreRemarked l lent new bad) nodes-are is)
 
 module _ {s : State Block} {ms : List Mark} (are : AreMarks s ms) where
   pub genesis_usable : has_no_mark (laid s ms) 0 ≡ true
@@ -69,7 +69,7 @@ module _ {s : State Block} {ms : List Mark} (are : AreMarks s ms) where
 
   -- ---- the marks of invalid blocks are others
 
-  module _ (ns : List Node) (some : 0 < length ns) (blocks : ◌≡◌ {A = Blocks Block} (blocks_of ns) s.blocks) where
+  module _ (ns : List BlockIndex) (some : 0 < length ns) (blocks : ◌≡◌ {A = Blocks Block} (blocks_of ns) s.blocks) where
     pub same_count : length ms ≡ length ns
     same_count = are.count ∙ ap (λ (t : Blocks Block). suc (length t)) (sym blocks) ∙ length-blocks ns some
 
@@ -122,7 +122,7 @@ module _ {s : State Block} {ms : List Mark} (are : AreMarks s ms) where
 
 -- ---- a tree's own marks
 
-module _ {ns : List Node} {ms : List Mark} {cs : List ℕ} {is : List (Id × ℕ)} {ls : List ℕ} (right : IsRight ns ms cs is ls) {s : State Block} (view : state_of ns ms cs ≡ s) where
+module _ {ns : List BlockIndex} {ms : List Mark} {cs : List ℕ} {is : List (Id × ℕ)} {ls : List ℕ} (right : IsRight ns ms cs is ls) {s : State Block} (view : state_of ns ms cs ≡ s) where
   pub blocks_there : ◌≡◌ {A = Blocks Block} (blocks_of ns) s.blocks
   unfolding state_of
   blocks_there = ap (λ (t : State Block). t.blocks) view

@@ -4,8 +4,8 @@ use Rattle.std.proofs.Math.ListN.{set}
 use Rattle.std.proofs.lemmas.List.{length-set}
 use Rattle.hash.specs.declared.id.Id.{Id}
 use Rattle.block.specs.declared.block.Block.{Block}
-use Rattle.tree.specs.declared.node.Node.{Node}
-use Rattle.tree.specs.declared.node.Mark.{Mark}
+use Rattle.tree.specs.declared.block_index.BlockIndex.{BlockIndex}
+use Rattle.tree.specs.declared.block_index.Mark.{Mark}
 use Rattle.tree.specs.Branches.{has}
 use Rattle.tree.specs.State.{State, rank_in}
 use Rattle.tree.specs.Nodes.{mark_at, places_where, state_of}
@@ -13,7 +13,7 @@ use Rattle.tree.specs.inside.Nodes.{IsRight}
 use Rattle.tree.proofs.Views.{kept, where_agree}
 use Rattle.tree.proofs.Changes.{set_kept, made, blocks-view, bad-view, seen-view, right_flags, whole}
 
-module _ {ns : List Node} {ms : List Mark} {cs : List ℕ} {is : List (Id × ℕ)} {ls : List ℕ} (right : IsRight ns ms cs is ls) where
+module _ {ns : List BlockIndex} {ms : List Mark} {cs : List ℕ} {is : List (Id × ℕ)} {ls : List ℕ} (right : IsRight ns ms cs is ls) where
   -- a kept block has a mark
   pub has_mark : {s : State Block} → state_of ns ms cs ≡ s → (p : ℕ) → p ≤ length s.blocks → p < length ms
   has_mark view p h = let k = kept right view in let l = right.same in omega arith

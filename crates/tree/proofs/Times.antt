@@ -3,7 +3,7 @@ use Rattle.std.proofs.Common.{◌≡◌, ℕ, zero, suc, ◌+◌, ◌<◌, ◌�
 use Rattle.std.proofs.Math.ListN.{set}
 use Rattle.std.proofs.lemmas.List.{append_assoc, take-append-le}
 use Rattle.block.specs.declared.block.Block.{Block}
-use Rattle.tree.specs.declared.node.Node.{Node}
+use Rattle.tree.specs.declared.block_index.BlockIndex.{BlockIndex}
 use Rattle.tree.specs.Branches.{Blocks, branch, block_at, blocks_at}
 use Rattle.tree.specs.MedianTime.{time_of}
 use Rattle.tree.specs.Names.{names}
@@ -16,15 +16,15 @@ use Rattle.tree.proofs.Changes.{branch_down}
 abbrev pub times_on : Blocks Block → ℕ → List ℕ
 times_on t p = map time_of (blocks_at names t (branch t p))
 
-time_is : (ns : List Node) (p : ℕ) (n : Node) → AreNodes (blocks_of ns) ns → p < length ns → n ≡ get_or ns p n → time_of n.block ≡ time_of (block_at names (blocks_of ns) p)
+time_is : (ns : List BlockIndex) (p : ℕ) (n : BlockIndex) → AreNodes (blocks_of ns) ns → p < length ns → n ≡ get_or ns p n → time_of n.block ≡ time_of (block_at names (blocks_of ns) p)
 time_is ns p n nodes h e = ap time_of (subst (IsNode (blocks_of ns) p) (sym e) (nodes p n h)).block
 
-pub times_down : (ns : List Node) (p : ℕ) (n : Node) → AreNodes (blocks_of ns) ns → 0 < p → p < length ns → n ≡ get_or ns p n → ◌≡◌ {A = List ℕ} (times_on (blocks_of ns) p) (time_of n.block ∷ times_on (blocks_of ns) n.parent)
+pub times_down : (ns : List BlockIndex) (p : ℕ) (n : BlockIndex) → AreNodes (blocks_of ns) ns → 0 < p → p < length ns → n ≡ get_or ns p n → ◌≡◌ {A = List ℕ} (times_on (blocks_of ns) p) (time_of n.block ∷ times_on (blocks_of ns) n.parent)
 times_down ns p n nodes z h e =
     ap (λ (l : List ℕ). map time_of (blocks_at names (blocks_of ns) l)) (branch_down ns p n nodes z h e)
     ∙ ap (λ (x : ℕ). x ∷ times_on (blocks_of ns) n.parent) (sym (time_is ns p n nodes h e))
 
-pub times_end : (ns : List Node) (p : ℕ) (n : Node) → AreNodes (blocks_of ns) ns → p ≡ 0 → p < length ns → n ≡ get_or ns p n → ◌≡◌ {A = List ℕ} (times_on (blocks_of ns) p) (time_of n.block ∷ [])
+pub times_end : (ns : List BlockIndex) (p : ℕ) (n : BlockIndex) → AreNodes (blocks_of ns) ns → p ≡ 0 → p < length ns → n ≡ get_or ns p n → ◌≡◌ {A = List ℕ} (times_on (blocks_of ns) p) (time_of n.block ∷ [])
 times_end ns p n nodes z h e =
     ap (λ (l : List ℕ). map time_of (blocks_at names (blocks_of ns) l)) (ap (branch (blocks_of ns)) z ∙ branch-genesis (blocks_of ns))
     ∙ ap (λ (x : ℕ). x ∷ []) (ap (λ (q : ℕ). time_of (block_at names (blocks_of ns) q)) (sym z) ∙ sym (time_is ns p n nodes h e))

@@ -3,8 +3,8 @@ use Rattle.std.proofs.Common.{◌≡◌, ℕ, suc, ◌+◌, ◌-◌, ◌<◌, �
 use Rattle.std.proofs.lemmas.List.{length-reverse, length-map, reverse-append, map-append, get_or_default}
 use Rattle.hash.specs.declared.id.Id.{Id}
 use Rattle.block.specs.declared.block.Block.{Block}
-use Rattle.tree.specs.declared.node.Node.{Node}
-use Rattle.tree.specs.declared.node.Mark.{Mark}
+use Rattle.tree.specs.declared.block_index.BlockIndex.{BlockIndex}
+use Rattle.tree.specs.declared.block_index.Mark.{Mark}
 use Rattle.tree.specs.Branches.{Blocks, has, down_from}
 use Rattle.tree.specs.State.{State, has_no_mark, rank, union_where}
 use Rattle.tree.specs.Nodes.{kept_of, blocks_of, blank, mark_at, places_where, state_of}
@@ -14,13 +14,13 @@ use Rattle.tree.specs.laws.Sets.{has-filter, filter_agree, has_filter-above}
 
 -- ---- the nodes as blocks
 
-pub length-blocks : (ns : List Node) → 0 < length ns → suc (length (blocks_of ns)) ≡ length ns
+pub length-blocks : (ns : List BlockIndex) → 0 < length ns → suc (length (blocks_of ns)) ≡ length ns
 unfolding blocks_of
 length-blocks [] h = absurd (omega arith)
 length-blocks (n ∷ ns) h = ap suc (length-reverse (map kept_of ns) ∙ length-map ns kept_of)
 
 -- a node that is pushed is the newest block
-pub blocks-push : (ns : List Node) (n : Node) → 0 < length ns → ◌≡◌ {A = Blocks Block} (blocks_of (ns ++ n ∷ [])) (kept_of n ∷ blocks_of ns)
+pub blocks-push : (ns : List BlockIndex) (n : BlockIndex) → 0 < length ns → ◌≡◌ {A = Blocks Block} (blocks_of (ns ++ n ∷ [])) (kept_of n ∷ blocks_of ns)
 unfolding blocks_of
 blocks-push [] n h = absurd (omega arith)
 blocks-push (m ∷ ns) n h = ap reverse (map-append kept_of ns (n ∷ [])) ∙ reverse-append (map kept_of ns) (kept_of n ∷ [])
@@ -54,12 +54,12 @@ module _ (f : Mark → Bool) where
 
 -- ---- a tree
 
-module _ {ns : List Node} {ms : List Mark} {cs : List ℕ} {is : List (Id × ℕ)} {ls : List ℕ} (right : IsRight ns ms cs is ls) {s : State Block} (view : state_of ns ms cs ≡ s) where
+module _ {ns : List BlockIndex} {ms : List Mark} {cs : List ℕ} {is : List (Id × ℕ)} {ls : List ℕ} (right : IsRight ns ms cs is ls) {s : State Block} (view : state_of ns ms cs ≡ s) where
   pub kept : length ns ≡ suc (length s.blocks)
   unfolding state_of
   kept = sym (length-blocks ns right.some) ∙ ap (λ (t : State Block). suc (length t.blocks)) view
 
-  pub node_at : (p : ℕ) → p ≤ length s.blocks → (n : Node) → n ≡ get_or ns p n → IsNode s.blocks p n
+  pub node_at : (p : ℕ) → p ≤ length s.blocks → (n : BlockIndex) → n ≡ get_or ns p n → IsNode s.blocks p n
   unfolding state_of
   node_at p h n e =
       let k = kept in

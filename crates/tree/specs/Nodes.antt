@@ -3,14 +3,14 @@ use Rattle.std.specs.Prelude.{◌≡◌, ℕ, suc, ◌-◌, ◌<◌, ◌≤◌, 
 use Rattle.block.specs.declared.block.Block.{Block}
 use Rattle.block.specs.Identity.{id_of}
 use Rattle.tree.specs.declared.new_block.NewBlock.{NewBlock}
-use Rattle.tree.specs.declared.node.Node.{Node}
-use Rattle.tree.specs.declared.node.Mark.{Mark}
+use Rattle.tree.specs.declared.block_index.BlockIndex.{BlockIndex}
+use Rattle.tree.specs.declared.block_index.Mark.{Mark}
 use Rattle.tree.specs.Branches.{Kept, Blocks, down_from}
 use Rattle.tree.specs.Limits.{max_blocks}
 use Rattle.tree.specs.State.{State, has_no_mark, rank}
 
 -- the block of a node, with its parent's place
-abbrev pub kept_of : Node → Kept Block
+abbrev pub kept_of : BlockIndex → Kept Block
 kept_of n = record { block = n.block; parent = n.parent }
 
 -- all but the first
@@ -19,7 +19,7 @@ after_first [] = []
 after_first (x ∷ xs) = xs
 
 -- the first node is genesis
-unfoldable pub blocks_of : List Node → Blocks Block
+unfoldable pub blocks_of : List BlockIndex → Blocks Block
 blocks_of nodes = reverse (map kept_of (after_first nodes))
 
 -- where there is no mark
@@ -35,7 +35,7 @@ unfoldable pub places_where : (Mark → Bool) → List Mark → List ℕ
 places_where f marks = filter (λ p. f (mark_at marks p)) (down_from (length marks - 1))
 
 -- the state that nodes, marks and calls are
-unfoldable pub state_of : List Node → List Mark → List ℕ → State Block
+unfoldable pub state_of : List BlockIndex → List Mark → List ℕ → State Block
 state_of nodes marks calls = record {
   blocks = blocks_of nodes;
   bad = places_where (λ m. m.bad) marks;

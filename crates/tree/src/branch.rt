@@ -5,12 +5,16 @@ ghost use Rattle.tree.specs.Branches.{branch};
 ghost use Rattle.tree.specs.Nodes.{blocks_of};
 ghost use Rattle.tree.specs.inside.Nodes.{AreNodes};
 
-use crate::node::Node;
+use crate::block_index::BlockIndex;
 use std::alloc::Global;
 use wire::Memory;
 
 /// The places from this one down to genesis.
-pub(crate) fn branch_of(alloc: Global, nodes: &[Node], place: usize) -> Result<Vec<usize>, Memory>
+pub(crate) fn branch_of(
+    alloc: Global,
+    nodes: &[BlockIndex],
+    place: usize,
+) -> Result<Vec<usize>, Memory>
     requires nodes { AreNodes (blocks_of nodes.now) nodes.now }
     requires kept { place < length nodes.now }
     ensures { IfOk result (λ places. places.items ≡ branch (blocks_of nodes.now) place) }

@@ -3,13 +3,13 @@
 ghost use Rattle.std.specs.Prelude.{◌≡◌};
 ghost use Rattle.tree.specs.inside.Nodes.{first_node};
 
-use crate::node::Node;
+use crate::block_index::BlockIndex;
 use block::{GENESIS_ID, GENESIS_TIME, StoredBlock};
 
-pub(crate) fn genesis_node() -> Node
+pub(crate) fn genesis_node() -> BlockIndex
     ensures { result ≡ first_node }
 {
-    Node {
+    BlockIndex {
         block: StoredBlock::genesis(),
         id: GENESIS_ID,
         parent: 0,

@@ -10,15 +10,15 @@ ghost use Rattle.hash.specs.Id.{same_id};
 ghost use Rattle.tree.specs.Nodes.{blocks_of, kept_of};
 ghost use Rattle.tree.specs.inside.Nodes.{AreNodes, IsNode};
 
+use crate::block_index::BlockIndex;
 use crate::median_time::median_on;
-use crate::node::Node;
 use block::StoredBlock;
 use hash::Id;
 use std::alloc::AllocError;
 use std::collections::{HashMap, HashSet};
 
 /// The node of a new block on this parent.
-pub(crate) fn node_on(nodes: &[Node], block: StoredBlock, id: Id, parent: usize) -> Node
+pub(crate) fn node_on(nodes: &[BlockIndex], block: StoredBlock, id: Id, parent: usize) -> BlockIndex
     requires nodes { AreNodes (blocks_of nodes.now) nodes.now }
     requires kept { parent < length nodes.now }
     requires room { length nodes.now < max_blocks }
@@ -29,7 +29,7 @@ pub(crate) fn node_on(nodes: &[Node], block: StoredBlock, id: Id, parent: usize)
 {
     let height = nodes[parent].height + 1;
     let median = median_on(nodes, parent, block.time());
-    Node {
+    BlockIndex {
         block,
         id,
         parent,

@@ -1,6 +1,7 @@
 //! The tree of kept blocks: branches, marks, which block is the better one, and tips.
 #![tactic(auto)]
 
+mod block_index;
 mod branch;
 mod copies;
 mod genesis;
@@ -12,7 +13,6 @@ mod marking;
 mod marks;
 mod median_time;
 mod new_block;
-mod node;
 mod overlay;
 mod rank;
 mod tip;

@@ -5,12 +5,16 @@ ghost use Rattle.tree.specs.Branches.{on};
 ghost use Rattle.tree.specs.Nodes.{blocks_of, mark_at, state_of};
 ghost use Rattle.tree.specs.inside.Nodes.{AreNodes, AreRemarked, AreUsable, SameFlags};
 
-use crate::node::{Mark, Node};
+use crate::block_index::{BlockIndex, Mark};
 use std::alloc::Global;
 use wire::Memory;
 
 /// Of each place, whether its block is the one at `place`, a descendant of it, or an ancestor.
-pub(crate) fn related(alloc: Global, nodes: &[Node], place: usize) -> Result<Vec<bool>, Memory>
+pub(crate) fn related(
+    alloc: Global,
+    nodes: &[BlockIndex],
+    place: usize,
+) -> Result<Vec<bool>, Memory>
     requires nodes { AreNodes (blocks_of nodes.now) nodes.now }
     requires kept { place < length nodes.now }
     ensures len { IfOk result (λ related. length related.items ≡ length nodes.now) }
@@ -24,7 +28,7 @@ pub(crate) fn related(alloc: Global, nodes: &[Node], place: usize) -> Result<Vec
 }
 
 /// Of each place, whether its block is this one or a descendant of it.
-fn descendants(alloc: Global, nodes: &[Node], place: usize) -> Result<Vec<bool>, Memory>
+fn descendants(alloc: Global, nodes: &[BlockIndex], place: usize) -> Result<Vec<bool>, Memory>
     requires nodes { AreNodes (blocks_of nodes.now) nodes.now }
     ensures len { IfOk result (λ down. length down.items ≡ length nodes.now) }
     ensures down { IfOk result (λ down. (x : ℕ) → x < length nodes.now →
@@ -47,7 +51,7 @@ fn stands_on(down: &[bool], next: usize, parent: usize, place: usize) -> bool
     next == place || (next > 0 && down[parent])
 }
 
-fn add_ancestors(nodes: &[Node], place: usize, related: &mut Vec<bool>)
+fn add_ancestors(nodes: &[BlockIndex], place: usize, related: &mut Vec<bool>)
     requires nodes { AreNodes (blocks_of nodes.now) nodes.now }
     requires kept { place < length nodes.now }
     requires len { length related.old.items ≡ length nodes.now }
@@ -66,7 +70,7 @@ fn add_ancestors(nodes: &[Node], place: usize, related: &mut Vec<bool>)
 }
 
 /// Marks a block, and works out anew which branches are usable.
-pub(crate) fn mark_block(nodes: &[Node], marks: &mut [Mark], place: usize)
+pub(crate) fn mark_block(nodes: &[BlockIndex], marks: &mut [Mark], place: usize)
     requires nodes { AreNodes (blocks_of nodes.now) nodes.now }
     requires count { length marks.old ≡ length nodes.now }
     requires usable { AreUsable (state_of nodes.now marks.old []) marks.old (length nodes.now) }
@@ -79,7 +83,7 @@ pub(crate) fn mark_block(nodes: &[Node], marks: &mut [Mark], place: usize)
 }
 
 /// Takes the marks from these blocks, and works out anew which branches are usable.
-pub(crate) fn take_marks(nodes: &[Node], marks: &mut [Mark], related: &[bool])
+pub(crate) fn take_marks(nodes: &[BlockIndex], marks: &mut [Mark], related: &[bool])
     requires nodes { AreNodes (blocks_of nodes.now) nodes.now }
     requires some { 0 < length nodes.now }
     requires count { length marks.old ≡ length nodes.now }
@@ -111,7 +115,7 @@ fn unmark(marks: &mut [Mark], related: &[bool])
 
 /// Works out anew, from the place `from` on, which branches have no marked block; those before it are known.
 /// A block comes after its parent, so one pass does.
-fn spoil(nodes: &[Node], marks: &mut [Mark], from: usize)
+fn spoil(nodes: &[BlockIndex], marks: &mut [Mark], from: usize)
     requires start { 0 < from }
     requires nodes { AreNodes (blocks_of nodes.now) nodes.now }
     requires same { length marks.old ≡ length nodes.now }

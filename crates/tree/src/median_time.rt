@@ -8,11 +8,11 @@ ghost use Rattle.tree.specs.Names.{names};
 ghost use Rattle.tree.specs.Nodes.{blocks_of};
 ghost use Rattle.tree.specs.inside.Nodes.{AreNodes};
 
-use crate::node::Node;
+use crate::block_index::BlockIndex;
 use locks::{MEDIAN_TIME_SPAN, median};
 
 /// The median time past of a new block of this time on this parent (Bitcoin Core's `GetMedianTimePast`).
-pub(crate) fn median_on(nodes: &[Node], parent: usize, time: u32) -> u32
+pub(crate) fn median_on(nodes: &[BlockIndex], parent: usize, time: u32) -> u32
     requires nodes { AreNodes (blocks_of nodes.now) nodes.now }
     requires kept { parent < length nodes.now }
     ensures { let t = blocks_of nodes.now in result ≡

@@ -5,9 +5,9 @@ ghost use Rattle.tree.specs.Nodes.{AreMarks, laid};
 ghost use Rattle.tree.specs.Sound.{IsBest};
 ghost use Rattle.tree.specs.State.{has_no_mark, without_marks};
 
+use crate::block_index::Mark;
 use crate::marking::Marking;
 use crate::marks::{mark_block, related, take_marks};
-use crate::node::Mark;
 use crate::tree::Tree;
 use std::alloc::Global;
 use std::marker::Model;
@@ -40,7 +40,7 @@ pub struct Marks {
 
 impl Model for Marks {
     ghost use Rattle.std.specs.Prelude.{List};
-    ghost use Rattle.tree.specs.declared.node.Mark.{Mark};
+    ghost use Rattle.tree.specs.declared.block_index.Mark.{Mark};
 
     ghost Value = { List Mark };
 

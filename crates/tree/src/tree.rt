@@ -11,6 +11,7 @@ ghost use Rattle.tree.specs.Tips.{tip_of_id, tips};
 ghost use Rattle.tree.specs.MedianTime.{median_time_past};
 ghost use Rattle.tree.specs.Names.{names};
 
+use crate::block_index::{BlockIndex, Mark};
 use crate::branch::branch_of;
 use crate::genesis::genesis_node;
 use crate::growth::reserve_one;
@@ -19,7 +20,6 @@ use crate::leaves::{enter, node_on, reserve_leaf};
 use crate::marking::Marking;
 use crate::marks::mark_block;
 use crate::new_block::NewBlock;
-use crate::node::{Mark, Node};
 use crate::overlay::Marks;
 use crate::rank::Standing;
 use crate::tip::Tip;
@@ -31,14 +31,14 @@ use std::collections::{HashMap, HashSet};
 use std::marker::Model;
 use wire::Memory;
 
-/// So many blocks are kept, genesis among them.
+/// How many blocks are kept, genesis among them.
 pub const MAX_BLOCKS: usize = 1_000_000;
 
 /// The kept blocks, each named by its place in the order of arrival: genesis has place 0. A clause sees the
 /// state that the definitions speak of.
 #[derive(Drop)]
 pub struct Tree {
-    pub(crate) nodes: Vec<Node>,
+    pub(crate) nodes: Vec<BlockIndex>,
     pub(crate) marks: Vec<Mark>,
     /// The places that were called precious, in the order of the calls.
     pub(crate) calls: Vec<usize>,

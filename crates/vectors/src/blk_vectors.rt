@@ -23,6 +23,16 @@ impl<S: Source> Source for ByteByByte<S> {
         self.inner.read(&mut buffer[..room])
     }
 
+    fn append(&mut self, bytes: &mut Vec<u8>, want: usize) -> Result<bool, BlkFault> {
+        let whole = bytes.len() + want;
+        while bytes.len() < whole {
+            if !self.inner.append(bytes, 1)? {
+                return Ok(false);
+            }
+        }
+        Ok(true)
+    }
+
     ghost countable = { λ source. S.countable source.inner };
 }
 
@@ -53,6 +63,20 @@ impl<S: Source> Source for FailsOnce<S> {
         let count = self.inner.read(&mut buffer[..room])?;
         self.left -= count;
         Ok(count)
+    }
+
+    fn append(&mut self, bytes: &mut Vec<u8>, want: usize) -> Result<bool, BlkFault> {
+        if self.has_failed {
+            return self.inner.append(bytes, want);
+        }
+        let room = want.min(self.left);
+        let all = self.inner.append(bytes, room)?;
+        self.left -= room;
+        if room < want {
+            self.has_failed = true;
+            return Err(BlkFault::Read);
+        }
+        Ok(all)
     }
 
     ghost countable = { λ source. S.countable source.inner };

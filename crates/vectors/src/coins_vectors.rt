@@ -35,14 +35,14 @@ type Values = [Option<i64>; 24];
 
 /// A random run (xorshift64) over layers, with the values that have to be at the places.
 #[derive(Drop)]
-struct Trial {
+struct LayerRun {
     random: u64,
     values: Values,
     /// Whether all was as expected so far.
     holds: bool,
 }
 
-impl Trial {
+impl LayerRun {
     fn below(&mut self, end: u8) -> u8
         requires { 0 < end }
         ensures { result < end }
@@ -169,7 +169,7 @@ fn sum(values: &Values) -> i64 {
 #[test]
 fn layers_over_layers_by_chance(rt: HostRuntime) -> Result<(), Fail> {
     let mut map = CoinMap::new(rt.alloc());
-    let mut trial = Trial {
+    let mut trial = LayerRun {
         random: 20_260_101,
         values: [None; 24],
         holds: true,

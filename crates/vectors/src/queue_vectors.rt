@@ -57,13 +57,13 @@ fn early<'t>(alloc: Global, txs: &'t [Tx], spent: &[&[u8]]) -> Result<EarlyJobs<
 
 /// Counts the jobs that begin and those that end, and adds up the places of the first.
 #[derive(Drop)]
-struct Tally {
+struct JobCounts {
     count: AtomicU64,
     places: AtomicU64,
     ended: AtomicU64,
 }
 
-impl Tally {
+impl JobCounts {
     /// How many began, the sum of their places, and how many ended.
     fn sums(&self) -> [u64; 3] {
         [
@@ -73,8 +73,8 @@ impl Tally {
         ]
     }
 
-    fn new() -> Tally {
-        Tally {
+    fn new() -> JobCounts {
+        JobCounts {
             count: AtomicU64::new(0),
             places: AtomicU64::new(0),
             ended: AtomicU64::new(0),
@@ -82,7 +82,7 @@ impl Tally {
     }
 }
 
-impl Gate for Tally {
+impl Gate for JobCounts {
     fn begin(&self, job: usize) {
         self.count.fetch_add(1, SeqCst);
         self.places.fetch_add(job as u64, SeqCst);
@@ -160,7 +160,7 @@ where
     let alloc = rt.alloc();
     let table = Table::new(alloc);
     let txs = [transaction(alloc, row.early.len())?];
-    let gate = Tally::new();
+    let gate = JobCounts::new();
     let jobs = early(alloc, &txs, row.early)?;
     let verdicts = [check_early(rt, alloc, jobs, Source::Listed(&table), 2, &gate)?];
     let is_accepted = are_equal(verdicts[0].answers(), row.accepted);
@@ -189,7 +189,7 @@ fn is_answered<R>(
     tx: &Tx,
     verdicts: &[Verdicts],
     table: &Table,
-    gate: &Tally,
+    gate: &JobCounts,
 ) -> Result<bool, Memory>
 where
     R: Threads + Sync + AllocGlobal,

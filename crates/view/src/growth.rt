@@ -4,7 +4,7 @@ ghost use Rattle.std.specs.Prelude.{◌≡◌, ◌<◌, OnOk, vec_capacity, vec_
 
 use std::alloc::AllocError;
 
-/// So many places are asked for at least.
+/// The fewest places that are asked for.
 const LEAST: usize = 16;
 
 /// Room for one more. Where there is none the list gets an eighth more, and not twice as much: at most a ninth of it is

@@ -8,8 +8,8 @@ ghost use Rattle.view.specs.ViewState.{after_publication, opening_view};
 
 use crate::chain_info::ChainInfo;
 use crate::growth::reserve_one;
-use crate::note::Note;
 use crate::publication::Publication;
+use crate::seen_history::SeenHistory;
 use crate::shared_entry::SharedEntry;
 use coins::CoinMap;
 use left_right::Absorb;
@@ -28,11 +28,11 @@ pub struct View {
     table: Option<Arc<Table>>,
     seats: usize,
     /// The history that the last publication went on from.
-    before: Note,
+    before: SeenHistory,
     /// The entry that it brought.
     last: Option<SharedEntry>,
     /// The history with that entry too, once it has its place there.
-    pub(crate) note: Option<Note>,
+    pub(crate) note: Option<SeenHistory>,
     pub(crate) journal: Vec<SharedEntry>,
     pub(crate) coins: CoinMap,
     pub(crate) info: ChainInfo,
@@ -73,7 +73,7 @@ impl View {
         params: Params,
         table: Option<Arc<Table>>,
         seats: usize,
-        note: Note,
+        note: SeenHistory,
         info: ChainInfo,
     ) -> View
         requires { note.entries ≡ [] }

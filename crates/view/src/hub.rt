@@ -1,6 +1,6 @@
 //! What both copies of the published view share.
 
-use crate::note::EntryCount;
+use crate::seen_history::EntryCount;
 use std::sync::atomic::AtomicU64;
 
 /// The word that counts the entries of the history, and the number of the last attempt to publish.

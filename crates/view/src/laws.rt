@@ -11,8 +11,8 @@ ghost use Rattle.view.specs.declared.chain_info.ChainInfo.{ChainInfo};
 ghost use Rattle.view.specs.declared.publication.Publication.{Publication};
 
 use crate::history_name::Naming;
-use crate::note::Note;
 use crate::publishers::{ViewReader, ViewWriter};
+use crate::seen_history::SeenHistory;
 
 /// A view is exact at first: there are no coins then.
 pub fn the_opening_view_is_exact()
@@ -35,8 +35,8 @@ pub fn what_is_published_only_grows()
 
 /// Notes, readers and the writer may be given to other threads, and notes be shared with them.
 pub fn handles_cross_threads<J: Naming>() {
-    is_sent::<Note>();
-    is_shared::<Note>();
+    is_sent::<SeenHistory>();
+    is_shared::<SeenHistory>();
     is_sent::<ViewReader<J>>();
     is_sent::<ViewWriter<J>>();
 }

@@ -7,7 +7,7 @@ ghost use Rattle.view.specs.inside.NextEntry.{IsNoPlace};
 
 use crate::chain_info::ChainInfo;
 use crate::hub::Hub;
-use crate::note::Note;
+use crate::seen_history::SeenHistory;
 use crate::shared_entry::SharedEntry;
 use coins::Changes;
 use std::sync::Arc;
@@ -20,7 +20,7 @@ const MAX_ENTRIES: u64 = 1 << 60;
 #[derive(Drop)]
 pub(crate) enum NoPlace {
     /// The history has another entry there: it is this.
-    Taken(Note),
+    Taken(SeenHistory),
     /// It has as many entries as it may have.
     Full,
 }
@@ -31,7 +31,7 @@ pub(crate) enum NoPlace {
 pub struct Publication {
     pub hub: Arc<Hub>,
     /// The history before the entry.
-    pub before: Note,
+    pub before: SeenHistory,
     pub entry: SharedEntry,
     /// Whether it is one entry more.
     pub is_new: bool,
@@ -45,7 +45,7 @@ pub struct Publication {
 
 impl Publication {
     /// The history with the entry, which gets its place there. None where a later attempt was made, or it gets none.
-    pub(crate) fn note(&self) -> Option<Note>
+    pub(crate) fn note(&self) -> Option<SeenHistory>
         ensures { let b = self.now.before in IfSome result (λ n.
             (n.book ≡ b.book) × (n.entries ≡ b.entries ++ self.now.entry ∷ [])) }
     {
@@ -56,7 +56,7 @@ impl Publication {
     }
 
     /// Gives the entry its place in the history.
-    fn place(&self) -> Result<Note, NoPlace>
+    fn place(&self) -> Result<SeenHistory, NoPlace>
         ensures ok { let b = self.now.before in IfOk result (λ n.
             (n.book ≡ b.book) × (n.entries ≡ b.entries ++ self.now.entry ∷ [])) }
         ensures err { IfErr result (λ why. IsNoPlace self.now.before why) }

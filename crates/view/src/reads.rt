@@ -13,7 +13,7 @@ ghost use Rattle.view.specs.ViewState.{IsExact, state_after};
 
 use crate::chain_info::ChainInfo;
 use crate::history_view::View;
-use crate::note::Note;
+use crate::seen_history::SeenHistory;
 use crate::shared_entry::SharedEntry;
 use coins::{Base, Coin, CoinMap};
 use hash::Id;
@@ -29,7 +29,7 @@ impl View {
     }
 
     /// The history, as its readers keep it. None where its last entry has no place there.
-    pub fn note(&self) -> Option<Note>
+    pub fn note(&self) -> Option<SeenHistory>
         requires { IsExact self.now }
         ensures { IfSome result (λ note.
             (note.book ≡ self.now.origin.book) × (note.entries ≡ self.now.journal)) }

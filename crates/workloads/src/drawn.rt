@@ -26,7 +26,7 @@ const INPUTS: [&str; 4] = ["6a", "- 1", "- 3", "- 4194305"];
 
 /// An output that a transaction may spend: how a scenario names it, and its value in satoshis.
 #[derive(Drop)]
-struct Output {
+struct DrawnOutput {
     name: String,
     value: u64,
 }
@@ -48,7 +48,7 @@ pub struct Drawn {
     plain: Vec<usize>,
     /// The block that was invalidated last.
     marked: usize,
-    outputs: Vec<Output>,
+    outputs: Vec<DrawnOutput>,
     /// How many transactions there are, of two outputs each.
     transactions: usize,
 }
@@ -230,7 +230,7 @@ impl Drawn {
     /// The coinbase of a block may be spent.
     fn add_coinbase(&mut self, place: usize) -> Result<(), AllocError> {
         let name = self.name(place)?;
-        self.outputs.push(Output {
+        self.outputs.push(DrawnOutput {
             name: format!(in self.alloc; "{name}.cb:0")?,
             value: 5_000_000_000,
         })?;
@@ -264,19 +264,19 @@ impl Drawn {
         let place = self.number(count);
         let script = self.number(20);
         let script = INPUTS.get(script).copied().unwrap_or("-");
-        let Output { name, value } = self.made(place)?;
+        let DrawnOutput { name, value } = self.made(place)?;
         writeln!(self.definitions, "in {name} {script}")?;
         Ok(value)
     }
 
     /// The output of this number, by default genesis's, which is no coin.
-    fn made(&self, number: usize) -> Result<Output, AllocError> {
+    fn made(&self, number: usize) -> Result<DrawnOutput, AllocError> {
         match self.outputs.get(number) {
-            Some(output) => Ok(Output {
+            Some(output) => Ok(DrawnOutput {
                 name: output.name.clone()?,
                 value: output.value,
             }),
-            None => Ok(Output {
+            None => Ok(DrawnOutput {
                 name: String::from_str(self.alloc, "genesis.cb:0")?,
                 value: 5_000_000_000,
             }),
@@ -286,12 +286,12 @@ impl Drawn {
     /// An output that anyone may spend; it may be taken for one more that isn't there.
     fn output(&mut self, number: usize, index: usize, value: u64) -> Result<(), AllocError> {
         writeln!(self.definitions, "out {value} 51")?;
-        self.outputs.push(Output {
+        self.outputs.push(DrawnOutput {
             name: format!(in self.alloc; "t{number}:{index}")?,
             value,
         })?;
         if self.number(10) == 0 {
-            self.outputs.push(Output {
+            self.outputs.push(DrawnOutput {
                 name: format!(in self.alloc; "t{number}:2")?,
                 value,
             })?;

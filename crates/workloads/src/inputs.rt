@@ -13,4 +13,4 @@ pub mod signed_transaction;
 pub mod spends;
 pub mod start;
 
-pub use fault::Fault;
+pub use fault::InputsFault;

@@ -13,8 +13,8 @@ use Rattle.tree.specs.laws.Above.{above, IsShared}
 use Rattle.activate.specs.declared.path.BranchPath.{BranchPath}
 use Rattle.activate.specs.declared.path.Reorganisation.{Reorganisation}
 use Rattle.activate.specs.declared.path.FailedTry.{FailedTry}
-use Rattle.activate.specs.declared.path.Attempt.{Attempt}
-use Rattle.activate.specs.declared.path.Attempt.TheVariants.{Succeeds, Fails}
+use Rattle.activate.specs.declared.path.TryOutcome.{TryOutcome}
+use Rattle.activate.specs.declared.path.TryOutcome.TheVariants.{Succeeds, Fails}
 use Rattle.model.specs.Rules.{Rules}
 use Rattle.model.specs.Valid.{fault, branch_connects}
 use Rattle.model.specs.Faults.{IsFirstFault}
@@ -91,6 +91,6 @@ pub record FailsAt (r : Rules Block Id) (t : Blocks Block) (a p : ℕ) (failed :
   pub path : IsPath t a p failed.path
   pub stop : IsStop r t p failed.path.up.items failed.passed failed.reason
 
-abbrev pub IsAttempt : Rules Block Id → Blocks Block → ℕ → ℕ → Attempt → Type 0
-IsAttempt r t a p (Succeeds move) = LeadsTo r t a p move
-IsAttempt r t a p (Fails failed) = FailsAt r t a p failed
+abbrev pub IsTryOutcome : Rules Block Id → Blocks Block → ℕ → ℕ → TryOutcome → Type 0
+IsTryOutcome r t a p (Succeeds move) = LeadsTo r t a p move
+IsTryOutcome r t a p (Fails failed) = FailsAt r t a p failed

@@ -12,7 +12,7 @@ use Rattle.tree.specs.laws.Sets.{InOrder}
 use Rattle.model.specs.declared.command.Command.{Command}
 use Rattle.model.specs.declared.command.Command.TheVariants as command
 use Rattle.activate.specs.declared.path.ActiveBranch.{ActiveBranch}
-use Rattle.activate.specs.declared.path.Attempt.{Attempt}
+use Rattle.activate.specs.declared.path.TryOutcome.{TryOutcome}
 use Rattle.activate.specs.declared.plan.Prepared.{Prepared}
 use Rattle.activate.specs.declared.plan.Settled.{Settled}
 use Rattle.activate.specs.declared.plan.Edit.{Edit}
@@ -33,7 +33,7 @@ use Rattle.model.specs.Commands.{outcome}
 use Rattle.model.specs.Submission.{Outcome, answer_added}
 use Rattle.activate.specs.CoreState.{CoreState, coins_of, lesser_of, most_undo}
 use Rattle.activate.specs.Lookups.{undo_at}
-use Rattle.activate.specs.inside.Paths.{FailsAt, IsAttempt, IsPath}
+use Rattle.activate.specs.inside.Paths.{FailsAt, IsTryOutcome, IsPath}
 
 -- the command submits nothing
 abbrev pub IsNoSubmission : Command → Type 0
@@ -184,11 +184,11 @@ pub record Settles (r : Rules Block Id) (c : CoreState) (rest : Completion) (cha
   pub ready : CanFinish r c rest
 
 -- a try of the block at p settles the state of c, and this came of it
-pub record IsTried (r : Rules Block Id) (c : CoreState) (p : ℕ) (attempt : Attempt) : Type 0 where
+pub record IsTried (r : Rules Block Id) (c : CoreState) (p : ℕ) (attempt : TryOutcome) : Type 0 where
   pub can : CanTry r c
   pub best : IsBest c.state (has_no_mark c.state) (length c.state.blocks) p
   pub one_try : IsOneTry r c p
-  pub came : IsAttempt r c.state.blocks c.active p attempt
+  pub came : IsTryOutcome r c.state.blocks c.active p attempt
 
 -- this settles the state of c, and this is the answer to the block at p
 pub record IsSettledBy (r : Rules Block Id) (c : CoreState) (p : ℕ) (settled : Settled) : Type 0 where

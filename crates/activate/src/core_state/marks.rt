@@ -14,7 +14,7 @@ ghost use Rattle.signatures.specs.Known.{Under};
 use crate::core_state::Core;
 use crate::core_state::preparation::still;
 use crate::core_state::settlement::settled_by;
-use crate::path::Attempt;
+use crate::path::TryOutcome;
 use crate::plan::{Completion, Edit, Prepared};
 use crate::try_flags::flag_failed_try;
 use coins::Base;
@@ -101,7 +101,7 @@ impl Core {
         'tries: loop {
             let place = overlay.best_usable();
             match self.try_block(alloc, base, place, env, gate)? {
-                Attempt::Succeeds(found) => {
+                TryOutcome::Succeeds(found) => {
                     let marks = overlay.into_marks();
                     return Ok(Prepared {
                         reply: Reply::Mark(MarkReply::Done),
@@ -110,7 +110,7 @@ impl Core {
                         changes: found.changes,
                     });
                 }
-                Attempt::Fails(failed) => flag_failed_try(&mut overlay, &failed),
+                TryOutcome::Fails(failed) => flag_failed_try(&mut overlay, &failed),
             }
         }
     }

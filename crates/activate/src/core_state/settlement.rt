@@ -11,12 +11,12 @@ ghost use Rattle.model.specs.Try.{state_after_try};
 ghost use Rattle.model.specs.Regtest.{regtest};
 ghost use Rattle.activate.specs.CoreState.{CoreState, Follows, coins_of};
 ghost use Rattle.activate.specs.Wants.{AreJoined, AreWantedToSettle};
-ghost use Rattle.activate.specs.inside.Paths.{IsActiveBranch, IsAttempt, IsValid, AreWantedOnWay};
+ghost use Rattle.activate.specs.inside.Paths.{IsActiveBranch, IsTryOutcome, IsValid, AreWantedOnWay};
 ghost use Rattle.activate.specs.inside.Preparation.{CanFlag, IsSettledBy, IsTried, core_of, core_with_block, reply_to_failed_try};
 ghost use Rattle.signatures.specs.Known.{Under};
 
 use crate::core_state::Core;
-use crate::path::{ActiveBranch, Attempt, FailedTry};
+use crate::path::{ActiveBranch, FailedTry, TryOutcome};
 use crate::plan::{Completion, Settled};
 use crate::try_flags::flag_failed_try;
 use coins::{Base, Changes};
@@ -80,14 +80,14 @@ impl Core {
         place: usize,
         env: &S,
         gate: &(dyn Gate + Sync),
-    ) -> Result<Attempt, S::Stop>
+    ) -> Result<TryOutcome, S::Stop>
         requires valid { Under (S.known env.now) (λ triples. let c = self.now in
             IsValid (regtest c.params triples) c.state.blocks c.active) }
         requires place { place ≤ length self.now.state.blocks }
         requires coins { B.coins base.now ≡ coins_of self.now }
         ensures attempt { IfOk result (λ attempt.
             Under (S.known env.now) (λ triples. let c = self.now in
-            IsAttempt (regtest c.params triples) c.state.blocks c.active place attempt)) }
+            IsTryOutcome (regtest c.params triples) c.state.blocks c.active place attempt)) }
         ensures wants { IfErr result (λ stop. IfSome (S.told stop)
             (AreJoined (AreWantedOnWay self.now.params self.now.state.blocks self.now.active
             place (S.known env.now)))) }
@@ -114,18 +114,18 @@ impl Core {
 }
 
 /// What a try of a block that settles the state leaves to do.
-pub(crate) fn settled_by(alloc: Global, place: usize, attempt: Attempt) -> Settled
+pub(crate) fn settled_by(alloc: Global, place: usize, attempt: TryOutcome) -> Settled
     requires { (r : Rules Block Id) × (c : CoreState) × IsTried r c place attempt }
     ensures { (r : Rules Block Id) (c : CoreState) → IsTried r c place attempt
         → IsSettledBy r c place result }
 {
     match attempt {
-        Attempt::Succeeds(found) => Settled {
+        TryOutcome::Succeeds(found) => Settled {
             rest: Completion::Activate(place, found.path, found.undo),
             changes: found.changes,
             said: SubmitReply::Accepted,
         },
-        Attempt::Fails(failed) => {
+        TryOutcome::Fails(failed) => {
             let said = refused(&failed);
             Settled {
                 rest: Completion::Flag(place, failed),

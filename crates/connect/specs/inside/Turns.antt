@@ -13,11 +13,11 @@ use Rattle.connect.specs.Turns.{Turn, spent_in, turn, turns, left_by, full_count
 use Rattle.connect.specs.Faults.{turn_rules, connect_rules}
 use Rattle.connect.specs.Faults as faults
 use Rattle.connect.specs.laws.Broken.{UpToCoins}
-use Rattle.connect.specs.declared.stop.Stop.{Stop}
-use Rattle.connect.specs.declared.stop.Stop.TheVariants.{Broken, Memory}
+use Rattle.connect.specs.declared.block_fault.BlockFault.{BlockFault}
+use Rattle.connect.specs.declared.block_fault.BlockFault.TheVariants.{Broken, Memory}
 
 -- where a rule is broken, it is the first one
-abbrev pub IsReason : Option Reason → Stop → Type 0
+abbrev pub IsReason : Option Reason → BlockFault → Type 0
 IsReason first (Broken reason) = first ≡ Some reason
 IsReason first Memory = Unit {0}
 

@@ -5,7 +5,7 @@ ghost use Rattle.durable.specs.Crash.{Event};
 ghost use Rattle.durable.specs.declared.host.Asked.TheVariants as asked;
 
 use crate::datadir::LOG;
-use crate::fault::Fault;
+use crate::fault::RunFault;
 use crate::options::STANDARD;
 use durable::{Asked, Call, Host};
 use http_server::Log as Notes;
@@ -69,7 +69,7 @@ impl<'o, O: Write> FileHost<'o, O> {
 }
 
 impl<O: Write> Host for FileHost<'_, O> {
-    type Fault = HostFault;
+    type Failure = HostFault;
 
     ghost calls = { λ host. map (λ noted. (noted.0, noted.1.items)) host.notes.items };
 
@@ -126,11 +126,11 @@ fn there(file: Option<&File>) -> Result<&File, HostFault> {
     }
 }
 
-impl From<HostFault> for Fault<'_> {
+impl From<HostFault> for RunFault<'_> {
     fn from(fault: HostFault) -> Self {
         match fault {
-            HostFault::Disk(error) => Fault::CannotWrite(LOG, error),
-            HostFault::Out(error) => Fault::CannotWrite(STANDARD, error),
+            HostFault::Disk(error) => RunFault::CannotWrite(LOG, error),
+            HostFault::Out(error) => RunFault::CannotWrite(STANDARD, error),
         }
     }
 }

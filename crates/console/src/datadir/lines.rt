@@ -1,7 +1,7 @@
 //! A line of the log: a step's line in the journal, and behind a tab what that line lacks. Of a submission it is the block's
 //! bytes in hexadecimal digits, of a verdict its signature as a line of a table.
 
-use crate::fault::Fault;
+use crate::fault::RunFault;
 use crate::report::Clients;
 use durable::first_line;
 use journal::{Asked, RecordFault, Step, block_of, put_record};
@@ -16,7 +16,7 @@ pub fn entry_line(
     clients: &Clients<'_>,
     number: u64,
     entry: &Entry,
-) -> Result<Vec<u8>, Fault<'static>> {
+) -> Result<Vec<u8>, RunFault<'static>> {
     let number = number as usize;
     let step = Step {
         number,
@@ -39,7 +39,7 @@ pub fn entry_line(
 
 /// A signature, and whether it is valid.
 #[derive(Drop)]
-pub struct Verdict {
+pub struct JudgedSignature {
     pub triple: KeptTriple,
     pub valid: bool,
 }
@@ -49,11 +49,11 @@ pub struct Verdict {
 pub struct Unpacked {
     pub journal: Vec<u8>,
     pub blk: Vec<u8>,
-    pub verdicts: Vec<Verdict>,
+    pub verdicts: Vec<JudgedSignature>,
 }
 
 /// What the lines of a log say.
-pub fn read_lines(alloc: Global, text: &[u8]) -> Result<Unpacked, Fault<'static>> {
+pub fn read_lines(alloc: Global, text: &[u8]) -> Result<Unpacked, RunFault<'static>> {
     let mut unpacked = Unpacked {
         journal: Vec::new(alloc),
         blk: Vec::new(alloc),
@@ -72,7 +72,7 @@ pub fn read_lines(alloc: Global, text: &[u8]) -> Result<Unpacked, Fault<'static>
 
 impl Unpacked {
     /// Adds the line of this number.
-    fn add(&mut self, alloc: Global, line: &[u8], number: usize) -> Result<(), Fault<'static>> {
+    fn add(&mut self, alloc: Global, line: &[u8], number: usize) -> Result<(), RunFault<'static>> {
         let Some(place) = memchr(b'\t', line) else {
             return self.add_step(line);
         };
@@ -83,7 +83,7 @@ impl Unpacked {
             b"submit" => self.add_digits(alloc, behind, number),
             b"valid" => self.add_verdict(alloc, behind, true, number),
             b"invalid" => self.add_verdict(alloc, behind, false, number),
-            _ => Err(Fault::JournalLine(number)),
+            _ => Err(RunFault::JournalLine(number)),
         }
     }
 
@@ -93,11 +93,11 @@ impl Unpacked {
         alloc: Global,
         digits: &[u8],
         number: usize,
-    ) -> Result<(), Fault<'static>> {
+    ) -> Result<(), RunFault<'static>> {
         match hex::decode(alloc, digits) {
             Ok(block) => self.add_block(block.as_slice()),
-            Err(hex::FromHexError::OutOfMemory) => Err(Fault::Memory),
-            Err(_) => Err(Fault::JournalLine(number)),
+            Err(hex::FromHexError::OutOfMemory) => Err(RunFault::Memory),
+            Err(_) => Err(RunFault::JournalLine(number)),
         }
     }
 
@@ -108,28 +108,28 @@ impl Unpacked {
         line: &[u8],
         valid: bool,
         number: usize,
-    ) -> Result<(), Fault<'static>> {
+    ) -> Result<(), RunFault<'static>> {
         match read_line(alloc, line, number) {
             Ok(Some(triple)) => {
-                self.verdicts.push(Verdict { triple, valid })?;
+                self.verdicts.push(JudgedSignature { triple, valid })?;
                 Ok(())
             }
-            Ok(None) | Err(TableFault::BadLine(_)) => Err(Fault::JournalLine(number)),
-            Err(TableFault::Memory) => Err(Fault::Memory),
+            Ok(None) | Err(TableFault::BadLine(_)) => Err(RunFault::JournalLine(number)),
+            Err(TableFault::Memory) => Err(RunFault::Memory),
         }
     }
 
-    fn add_step(&mut self, step: &[u8]) -> Result<(), Fault<'static>> {
+    fn add_step(&mut self, step: &[u8]) -> Result<(), RunFault<'static>> {
         self.journal.extend_from_slice(step)?;
         self.journal.push(b'\n')?;
         Ok(())
     }
 
-    fn add_block(&mut self, block: &[u8]) -> Result<(), Fault<'static>> {
+    fn add_block(&mut self, block: &[u8]) -> Result<(), RunFault<'static>> {
         match put_record(&mut self.blk, block) {
             Ok(()) => Ok(()),
-            Err(RecordFault::Memory) => Err(Fault::Memory),
-            Err(RecordFault::TooLong) => Err(Fault::BlkRecords),
+            Err(RecordFault::Memory) => Err(RunFault::Memory),
+            Err(RecordFault::TooLong) => Err(RunFault::BlkRecords),
         }
     }
 }
@@ -140,7 +140,7 @@ fn word_of(step: &[u8]) -> &[u8] {
 }
 
 /// The signatures that these verdicts say are valid.
-pub fn table_of(alloc: Global, verdicts: &[Verdict]) -> Result<Table, Fault<'static>> {
+pub fn table_of(alloc: Global, verdicts: &[JudgedSignature]) -> Result<Table, RunFault<'static>> {
     let lines = triple_lines(alloc, verdicts, true)?;
     Ok(Table::from_lines(alloc, lines.as_bytes())?)
 }
@@ -148,11 +148,11 @@ pub fn table_of(alloc: Global, verdicts: &[Verdict]) -> Result<Table, Fault<'sta
 /// The lines of the signatures of which these verdicts say that they are valid, or that they aren't.
 pub fn triple_lines(
     alloc: Global,
-    verdicts: &[Verdict],
+    verdicts: &[JudgedSignature],
     are_valid: bool,
-) -> Result<String, Fault<'static>> {
+) -> Result<String, RunFault<'static>> {
     let mut lines = String::new(alloc);
-    for Verdict { triple, valid } in verdicts {
+    for JudgedSignature { triple, valid } in verdicts {
         if *valid == are_valid {
             writeln!(lines, "{triple}")?;
         }

@@ -7,7 +7,7 @@ ghost use Rattle.node.specs.inside.PublishedState.{AreDue, Shows, entry_with_rep
 use crate::published_history::owed_step::Pending;
 use crate::published_history::writer_home::WriterHome;
 use std::sync::Wait;
-use view::{Naming, Note, Publication, ViewWriter, publish};
+use view::{Naming, Publication, SeenHistory, ViewWriter, publish};
 
 /// What there is after the attempt.
 #[derive(Drop)]
@@ -15,7 +15,7 @@ pub(crate) struct Attempt<J: Naming> {
     /// None where what is published has no note: nothing more is published then.
     pub(crate) home: Option<WriterHome<J>>,
     /// The history that is published.
-    pub(crate) note: Note,
+    pub(crate) note: SeenHistory,
     /// Whether the entry is still owed.
     pub(crate) pending: Pending,
 }

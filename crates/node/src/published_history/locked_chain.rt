@@ -18,7 +18,7 @@ use model::{MarkReply, PreparedCommand, Reply};
 use queue::{Crew, Gate, Verdicts};
 use signatures::{KnownSignatures, Table};
 use std::alloc::Global;
-use view::{Naming, Note};
+use view::{Naming, SeenHistory};
 
 /// Who runs scripts, by a table or by need, with the verdicts that were got before the lock.
 #[derive(Drop)]
@@ -36,7 +36,7 @@ pub(crate) struct LockedChain<J: Naming> {
     pub(crate) core: Core,
     pub(crate) known: Knowledge,
     /// The history that is published.
-    pub(crate) note: Note,
+    pub(crate) note: SeenHistory,
     pub(crate) reader: ReaderHome<J>,
 }
 

@@ -22,7 +22,7 @@ use std::alloc::Global;
 use std::sync::Arc;
 use std::sync::atomic::AtomicU64;
 use view::{
-    ChainInfo, EntryCount, Hub, Naming, Note, View, ViewReader, ViewWriter, another_reader,
+    ChainInfo, EntryCount, Hub, Naming, SeenHistory, View, ViewReader, ViewWriter, another_reader,
     open_writer,
 };
 use wire::Memory;
@@ -49,7 +49,7 @@ pub(crate) fn open_history<J: Naming>(
     table: Option<Arc<Table>>,
     seats: usize,
     counter: EntryCount,
-    note: Note,
+    note: SeenHistory,
 ) -> Result<Opened<J>, Memory>
     requires few { seats ≤ 16 }
     requires empty { note.entries ≡ [] }
@@ -92,7 +92,7 @@ fn writer_and_readers<J: Naming>(
     params: Params,
     table: &Option<Arc<Table>>,
     seats: usize,
-    note: &Note,
+    note: &SeenHistory,
     info: ChainInfo,
 ) -> Result<WriterAndReaders<J>, Memory>
     requires few { seats ≤ 16 }

@@ -34,7 +34,7 @@ impl RefusedBlocks {
     pub(crate) fn note(&mut self, core: &Core, command: &PreparedCommand, place: usize) {
         if let Some(id) = submitted(command) {
             if core.block(id).is_none() {
-                // There is room; without it the block would be unknown here, and no answer another.
+                // `reserve` made room. Should the map refuse nevertheless, the block is only not found again.
                 self.places.insert(*id, place).is_ok();
             }
         }

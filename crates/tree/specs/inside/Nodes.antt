@@ -3,8 +3,8 @@ use Rattle.std.specs.Prelude.{◌≡◌, ℕ, ◌<◌, ◌≤◌, Bool, true, fa
 use Rattle.std.specs.Map.{lookup}
 use Rattle.hash.specs.declared.id.Id.{Id}
 use Rattle.block.specs.declared.block.Block.{Block}
-use Rattle.tree.specs.declared.node.Node.{Node}
-use Rattle.tree.specs.declared.node.Mark.{Mark}
+use Rattle.tree.specs.declared.block_index.BlockIndex.{BlockIndex}
+use Rattle.tree.specs.declared.block_index.Mark.{Mark}
 use Rattle.tree.specs.Branches.{Blocks, has, branch, height, parent_at, block_at, id_at, blocks_at, place_of}
 use Rattle.tree.specs.inside.Leaves.{AreInOrder, AreLeaves}
 use Rattle.tree.specs.State.{State, has_no_mark}
@@ -15,7 +15,7 @@ use Rattle.tree.specs.Names.{names, genesis}
 use Rattle.tree.specs.Nodes.{IsMark, blocks_of, mark_at, state_of}
 
 -- of a node, by its place
-pub record IsNode (t : Blocks Block) (p : ℕ) (n : Node) : Type 0 where
+pub record IsNode (t : Blocks Block) (p : ℕ) (n : BlockIndex) : Type 0 where
   pub block : n.block ≡ block_at names t p
   pub id : n.id ≡ id_at names t p
   pub parent : n.parent ≡ parent_at t p
@@ -23,15 +23,15 @@ pub record IsNode (t : Blocks Block) (p : ℕ) (n : Node) : Type 0 where
   pub median : n.median ≡ median_time_past (blocks_at names t (branch t p))
 
 -- of all nodes, by their places
-abbrev pub AreNodes : Blocks Block → List Node → Type 0
-AreNodes t nodes = (p : ℕ) (d : Node) → p < length nodes → IsNode t p (slice_index_or nodes p d)
+abbrev pub AreNodes : Blocks Block → List BlockIndex → Type 0
+AreNodes t nodes = (p : ℕ) (d : BlockIndex) → p < length nodes → IsNode t p (slice_index_or nodes p d)
 
 -- the ids, each with the place of its block
 abbrev pub AreIds : Blocks Block → List (Id × ℕ) → Type 0
 AreIds t ids = (i : Id) → lookup (same_id i) ids ≡ place_of names t i
 
 -- of a tree: its nodes and marks, its calls, its ids, and its leaves
-pub record IsRight (nodes : List Node) (marks : List Mark) (calls : List ℕ) (ids : List (Id × ℕ)) (leaves : List ℕ) : Type 0 where
+pub record IsRight (nodes : List BlockIndex) (marks : List Mark) (calls : List ℕ) (ids : List (Id × ℕ)) (leaves : List ℕ) : Type 0 where
   pub some : 0 < length nodes
   pub room : length nodes ≤ max_blocks
   pub same : length marks ≡ length nodes
@@ -53,14 +53,14 @@ abbrev pub AreUsable : State Block → List Mark → ℕ → Type 0
 AreUsable s marks n = (p : ℕ) → p < n → (mark_at marks p).usable ≡ has_no_mark s p
 
 -- of marks of which those of invalid blocks are others now, at each place by what was there; which branches are usable is as they say
-pub record AreRemarked (nodes : List Node) (old new : List Mark) (bad : ℕ → Bool → Bool) : Type 0 where
+pub record AreRemarked (nodes : List BlockIndex) (old new : List Mark) (bad : ℕ → Bool → Bool) : Type 0 where
   pub count : length new ≡ length nodes
   pub bad_are : (p : ℕ) → p < length nodes → (mark_at new p).bad ≡ bad p (mark_at old p).bad
   pub seen_are : (p : ℕ) → p < length nodes → (mark_at new p).seen ≡ (mark_at old p).seen
   pub ranks_are : (p : ℕ) → p < length nodes → (mark_at new p).rank ≡ (mark_at old p).rank
   pub usable_are : AreUsable (state_of nodes new []) new (length nodes)
 
-abbrev pub first_node : Node
+abbrev pub first_node : BlockIndex
 first_node = record { block = genesis; id = names.genesis_id; parent = 0; height = 0; median = genesis.header.time }
 
 abbrev pub first_mark : Mark

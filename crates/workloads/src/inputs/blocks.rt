@@ -1,7 +1,7 @@
 //! Blocks over coins that they spend, and blocks as bytes and in files.
 
 use crate::inputs::branch::bytes_of;
-use crate::inputs::fault::Fault;
+use crate::inputs::fault::InputsFault;
 use crate::inputs::hoard::{put_coin, put_new};
 use crate::inputs::lists::{one, put, put_bytes, put_made};
 use crate::inputs::payments::{TRUE, block_of, block_with, input, outputs, transaction};
@@ -16,13 +16,13 @@ use txn::{OutPoint, Script, Tx, TxIn};
 const MAGIC: [u8; 4] = [0xfa, 0xbf, 0xb5, 0xda];
 
 /// The bytes of a block of so many payments.
-pub fn block_bytes(alloc: Global, size: usize) -> Result<Vec<u8>, Fault> {
+pub fn block_bytes(alloc: Global, size: usize) -> Result<Vec<u8>, InputsFault> {
     let block = block_of(alloc, size)?;
     bytes_of(alloc, &block)
 }
 
 /// A file that has the genesis block so often.
-pub fn blk_file(alloc: Global, count: usize) -> Result<Vec<u8>, Fault> {
+pub fn blk_file(alloc: Global, count: usize) -> Result<Vec<u8>, InputsFault> {
     let record = record();
     let mut file = Vec::new(alloc);
     for _ in 0..count {
@@ -41,7 +41,11 @@ fn record() -> [u8; 293] {
 }
 
 /// Puts in the coins that payments spend, and gives the block of these payments.
-pub fn block_over(alloc: Global, map: &mut CoinMap, list: Vec<Spend>) -> Result<Block, Fault> {
+pub fn block_over(
+    alloc: Global,
+    map: &mut CoinMap,
+    list: Vec<Spend>,
+) -> Result<Block, InputsFault> {
     let mut txs = Vec::new(alloc);
     for spend in list {
         put_payment(map, &mut txs, spend)?;
@@ -50,14 +54,14 @@ pub fn block_over(alloc: Global, map: &mut CoinMap, list: Vec<Spend>) -> Result<
 }
 
 /// Puts a payment behind others, and the coin that it spends into a map.
-fn put_payment(map: &mut CoinMap, txs: &mut Vec<Tx>, spend: Spend) -> Result<(), Fault> {
+fn put_payment(map: &mut CoinMap, txs: &mut Vec<Tx>, spend: Spend) -> Result<(), InputsFault> {
     let Spend { tx, spent } = spend;
     put_spent(map, &tx, spent)?;
     put(txs, tx)
 }
 
 /// Puts in the coin that a payment spends, with this script.
-fn put_spent(map: &mut CoinMap, tx: &Tx, spent: Vec<u8>) -> Result<(), Fault> {
+fn put_spent(map: &mut CoinMap, tx: &Tx, spent: Vec<u8>) -> Result<(), InputsFault> {
     let coin = Coin {
         value: 5000,
         script: Script::from_vec(spent),
@@ -71,12 +75,12 @@ fn put_spent(map: &mut CoinMap, tx: &Tx, spent: Vec<u8>) -> Result<(), Fault> {
 }
 
 /// A block whose one transaction spends so many coins whose script accepts, after they were put in.
-pub fn wide_block(alloc: Global, map: &mut CoinMap, size: usize) -> Result<Block, Fault> {
+pub fn wide_block(alloc: Global, map: &mut CoinMap, size: usize) -> Result<Block, InputsFault> {
     block_with(alloc, one(alloc, wide_tx(alloc, map, size))?)
 }
 
 /// A transaction that spends so many coins whose script accepts, after they were put in.
-fn wide_tx(alloc: Global, map: &mut CoinMap, size: usize) -> Result<Tx, Fault> {
+fn wide_tx(alloc: Global, map: &mut CoinMap, size: usize) -> Result<Tx, InputsFault> {
     let mut inputs = Vec::new(alloc);
     for index in 0..size.min(1_000_000) as u32 {
         put_made(&mut inputs, input_of(alloc, map, index))?;
@@ -85,7 +89,7 @@ fn wide_tx(alloc: Global, map: &mut CoinMap, size: usize) -> Result<Tx, Fault> {
 }
 
 /// An input that spends the coin of this place, after that was put in.
-fn input_of(alloc: Global, map: &mut CoinMap, index: u32) -> Result<TxIn, Fault> {
+fn input_of(alloc: Global, map: &mut CoinMap, index: u32) -> Result<TxIn, InputsFault> {
     let id = Id([7; 32]);
     let prev = OutPoint { id, index };
     put_new(alloc, map, prev, 5000, TRUE)?;

@@ -1,6 +1,6 @@
 //! Branches of blocks on genesis.
 
-use crate::inputs::fault::Fault;
+use crate::inputs::fault::InputsFault;
 use crate::inputs::lists::{one, put_bytes, put_first, put_made, put_times};
 use crate::inputs::payments::{TRUE, outputs, spending, under};
 use block::{Block, GENESIS_ID, GENESIS_TIME, Header, subsidy};
@@ -10,7 +10,7 @@ use script::Num;
 use std::alloc::Global;
 use txn::{OutPoint, Script, Tx, TxOut};
 
-/// So many bytes of data stand in a heavy block, which makes it almost as long as a block may be.
+/// How many bytes of data stand in a heavy block, which makes it almost as long as a block may be.
 const DATA: usize = 999_000;
 
 /// The branch of this number, as far as it was made.
@@ -19,7 +19,7 @@ pub struct Branch {
     pub number: u32,
     pub last: Id,
     pub height: u32,
-    /// So many bytes of data stand in each block; none where it is 0.
+    /// How many bytes of data stand in each block; none where it is 0.
     pub data: usize,
 }
 
@@ -43,7 +43,7 @@ impl Branch {
     }
 
     /// A block on the last one, of a coinbase and these payments.
-    pub fn next_block(&mut self, alloc: Global, payments: Vec<Tx>) -> Result<Block, Fault> {
+    pub fn next_block(&mut self, alloc: Global, payments: Vec<Tx>) -> Result<Block, InputsFault> {
         self.height = self.height.wrapping_add(1);
         let txs = put_first(payments, self.coinbase(alloc));
         let block = under(alloc, self.header(), txs)?;
@@ -64,19 +64,19 @@ impl Branch {
     }
 
     /// The bytes of such a block.
-    pub fn next_bytes(&mut self, alloc: Global, payments: Vec<Tx>) -> Result<Vec<u8>, Fault> {
+    pub fn next_bytes(&mut self, alloc: Global, payments: Vec<Tx>) -> Result<Vec<u8>, InputsFault> {
         let block = self.next_block(alloc, payments)?;
         bytes_of(alloc, &block)
     }
 
     /// A coinbase that pushes the height (BIP 34) and the branch's number.
-    fn coinbase(&self, alloc: Global) -> Result<Tx, Fault> {
+    fn coinbase(&self, alloc: Global) -> Result<Tx, InputsFault> {
         let mut bytes = self.height_push(alloc)?;
         put_bytes(&mut bytes, self.number_push().as_slice())?;
         spending(alloc, OutPoint::NULL, bytes.as_slice(), self.outputs(alloc))
     }
 
-    fn height_push(&self, alloc: Global) -> Result<Vec<u8>, Fault> {
+    fn height_push(&self, alloc: Global) -> Result<Vec<u8>, InputsFault> {
         match self.height {
             1..=16 => one(alloc, Ok(0x50 + self.height as u8)),
             height => {
@@ -94,7 +94,7 @@ impl Branch {
     }
 
     /// What its next coinbase pays, and the data that stands there.
-    fn outputs(&self, alloc: Global) -> Result<Vec<TxOut>, Fault> {
+    fn outputs(&self, alloc: Global) -> Result<Vec<TxOut>, InputsFault> {
         let mut outputs = outputs(alloc, 1, subsidy(self.height), TRUE)?;
         if self.data > 0 {
             put_made(&mut outputs, data_output(alloc, self.data))?;
@@ -104,14 +104,14 @@ impl Branch {
 }
 
 /// A block's bytes.
-pub fn bytes_of(alloc: Global, block: &Block) -> Result<Vec<u8>, Fault> {
+pub fn bytes_of(alloc: Global, block: &Block) -> Result<Vec<u8>, InputsFault> {
     let mut bytes = Vec::new(alloc);
     block::write(block, &mut bytes)?;
     Ok(bytes)
 }
 
 /// An output of no worth that holds so many bytes and can't be spent.
-fn data_output(alloc: Global, size: usize) -> Result<TxOut, Fault> {
+fn data_output(alloc: Global, size: usize) -> Result<TxOut, InputsFault> {
     let mut bytes = Vec::new(alloc);
     put_times(&mut bytes, 0x6a, size)?;
     Ok(TxOut {

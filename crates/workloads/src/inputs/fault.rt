@@ -5,26 +5,26 @@ use wire::Memory;
 
 /// Why inputs can't be made.
 #[derive(Drop)]
-pub enum Fault {
+pub enum InputsFault {
     Memory,
     /// More coins are asked for than the first hundred coinbases are spent for, which is two million.
     TooManyCoins,
 }
 
-impl From<Memory> for Fault {
+impl From<Memory> for InputsFault {
     fn from(_fault: Memory) -> Self {
-        Fault::Memory
+        InputsFault::Memory
     }
 }
 
-impl From<AllocError> for Fault {
+impl From<AllocError> for InputsFault {
     fn from(_error: AllocError) -> Self {
-        Fault::Memory
+        InputsFault::Memory
     }
 }
 
-impl<T: Drop> From<AllocFailed<T>> for Fault {
+impl<T: Drop> From<AllocFailed<T>> for InputsFault {
     fn from(_error: AllocFailed<T>) -> Self {
-        Fault::Memory
+        InputsFault::Memory
     }
 }

@@ -1,6 +1,6 @@
 //! Coins, and maps of them.
 
-use crate::inputs::fault::Fault;
+use crate::inputs::fault::InputsFault;
 use crate::inputs::lists::put_made;
 use crate::inputs::payments::{TRUE, coin, to_key_hash};
 use crate::inputs::random_bytes::Filling;
@@ -24,7 +24,7 @@ impl Hoard {
     }
 
     /// The next outpoint with its coin, which a key's hash locks.
-    pub fn next(&mut self, alloc: Global) -> Result<(OutPoint, Coin), Fault> {
+    pub fn next(&mut self, alloc: Global) -> Result<(OutPoint, Coin), InputsFault> {
         let at = OutPoint {
             id: Id(self.filling.bytes()),
             index: (self.filling.next() % 4) as u32,
@@ -35,8 +35,8 @@ impl Hoard {
     }
 }
 
-/// So many coins.
-pub fn hoarded(alloc: Global, size: usize) -> Result<Vec<(OutPoint, Coin)>, Fault> {
+/// This many coins.
+pub fn hoarded(alloc: Global, size: usize) -> Result<Vec<(OutPoint, Coin)>, InputsFault> {
     let mut hoard = Hoard::new();
     let mut coins = Vec::new(alloc);
     for _ in 0..size {
@@ -46,7 +46,7 @@ pub fn hoarded(alloc: Global, size: usize) -> Result<Vec<(OutPoint, Coin)>, Faul
 }
 
 /// Puts a coin into a map.
-pub fn put_coin(map: &mut CoinMap, at: OutPoint, coin: Coin) -> Result<(), Fault> {
+pub fn put_coin(map: &mut CoinMap, at: OutPoint, coin: Coin) -> Result<(), InputsFault> {
     map.insert(at, coin)?;
     Ok(())
 }
@@ -58,7 +58,7 @@ pub fn put_new(
     at: OutPoint,
     value: i64,
     script: &[u8],
-) -> Result<(), Fault> {
+) -> Result<(), InputsFault> {
     put_coin(map, at, coin(alloc, value, script)?)
 }
 
@@ -67,7 +67,7 @@ pub fn put_next(
     alloc: Global,
     hoard: &mut Hoard,
     map: &mut CoinMap,
-) -> Result<(OutPoint, u64), Fault> {
+) -> Result<(OutPoint, u64), InputsFault> {
     let (at, coin) = hoard.next(alloc)?;
     let worth = coin.value.unsigned_abs();
     put_coin(map, at, coin)?;
@@ -75,7 +75,7 @@ pub fn put_next(
 }
 
 /// Puts so many coins into a map: where they are, in another order than they came in.
-pub fn fill(alloc: Global, map: &mut CoinMap, size: usize) -> Result<Vec<OutPoint>, Fault> {
+pub fn fill(alloc: Global, map: &mut CoinMap, size: usize) -> Result<Vec<OutPoint>, InputsFault> {
     let mut hoard = Hoard::new();
     let mut places = Vec::new(alloc);
     for _ in 0..size {
@@ -86,13 +86,17 @@ pub fn fill(alloc: Global, map: &mut CoinMap, size: usize) -> Result<Vec<OutPoin
 }
 
 /// Puts the next of a hoard's coins into a map: where it is.
-fn put_place(alloc: Global, hoard: &mut Hoard, map: &mut CoinMap) -> Result<OutPoint, Fault> {
+fn put_place(alloc: Global, hoard: &mut Hoard, map: &mut CoinMap) -> Result<OutPoint, InputsFault> {
     let (at, _) = put_next(alloc, hoard, map)?;
     Ok(at)
 }
 
 /// Puts the coins that a chain leaves at these places into a map.
-pub fn put_spread(alloc: Global, map: &mut CoinMap, places: &[OutPoint]) -> Result<(), Fault> {
+pub fn put_spread(
+    alloc: Global,
+    map: &mut CoinMap,
+    places: &[OutPoint],
+) -> Result<(), InputsFault> {
     for at in places {
         put_new(alloc, map, *at, WORTH / 10, TRUE)?;
     }

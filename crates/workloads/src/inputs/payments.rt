@@ -1,6 +1,6 @@
 //! Transactions and coins, and blocks of payments with one input and two outputs.
 
-use crate::inputs::fault::Fault;
+use crate::inputs::fault::InputsFault;
 use crate::inputs::lists::{copied, one, put_first, put_made};
 use crate::inputs::random_bytes::Filling;
 use block::{Block, Header, Txs, meets_target, merkle};
@@ -14,7 +14,7 @@ use txn::{Inputs, OutPoint, Outputs, Script, Tx, TxIn, TxOut, ids};
 pub const TRUE: &[u8] = &[0x51];
 
 /// A script of these bytes.
-fn script(alloc: Global, bytes: &[u8]) -> Result<Script, Fault> {
+fn script(alloc: Global, bytes: &[u8]) -> Result<Script, InputsFault> {
     Ok(Script::from_vec(copied(alloc, bytes)?))
 }
 
@@ -30,13 +30,18 @@ pub fn to_key_hash(hash: &[u8; 20]) -> [u8; 25] {
 }
 
 /// An output of this worth and script.
-pub fn output(alloc: Global, value: i64, bytes: &[u8]) -> Result<TxOut, Fault> {
+pub fn output(alloc: Global, value: i64, bytes: &[u8]) -> Result<TxOut, InputsFault> {
     let script = script(alloc, bytes)?;
     Ok(TxOut { value, script })
 }
 
-/// So many outputs of this worth and script.
-pub fn outputs(alloc: Global, count: usize, worth: i64, bytes: &[u8]) -> Result<Vec<TxOut>, Fault> {
+/// This many outputs of this worth and script.
+pub fn outputs(
+    alloc: Global,
+    count: usize,
+    worth: i64,
+    bytes: &[u8],
+) -> Result<Vec<TxOut>, InputsFault> {
     let mut outputs = Vec::new(alloc);
     for _ in 0..count {
         put_made(&mut outputs, output(alloc, worth, bytes))?;
@@ -45,13 +50,17 @@ pub fn outputs(alloc: Global, count: usize, worth: i64, bytes: &[u8]) -> Result<
 }
 
 /// An output of this worth to the hash of a key.
-pub fn output_to_key(alloc: Global, filling: &mut Filling, value: i64) -> Result<TxOut, Fault> {
+pub fn output_to_key(
+    alloc: Global,
+    filling: &mut Filling,
+    value: i64,
+) -> Result<TxOut, InputsFault> {
     let hash: [u8; 20] = filling.bytes();
     output(alloc, value, to_key_hash(&hash).as_slice())
 }
 
 /// A coin of height 7 of this worth and script.
-pub fn coin(alloc: Global, value: i64, bytes: &[u8]) -> Result<Coin, Fault> {
+pub fn coin(alloc: Global, value: i64, bytes: &[u8]) -> Result<Coin, InputsFault> {
     let script = script(alloc, bytes)?;
     Ok(Coin {
         value,
@@ -62,7 +71,12 @@ pub fn coin(alloc: Global, value: i64, bytes: &[u8]) -> Result<Coin, Fault> {
 }
 
 /// An input with this script and sequence.
-pub fn input(alloc: Global, prev: OutPoint, bytes: &[u8], sequence: u32) -> Result<TxIn, Fault> {
+pub fn input(
+    alloc: Global,
+    prev: OutPoint,
+    bytes: &[u8],
+    sequence: u32,
+) -> Result<TxIn, InputsFault> {
     let script = script(alloc, bytes)?;
     Ok(TxIn {
         prev,
@@ -86,8 +100,8 @@ pub fn spending(
     alloc: Global,
     prev: OutPoint,
     bytes: &[u8],
-    outputs: Result<Vec<TxOut>, Fault>,
-) -> Result<Tx, Fault> {
+    outputs: Result<Vec<TxOut>, InputsFault>,
+) -> Result<Tx, InputsFault> {
     let outputs = outputs?;
     let inputs = one(alloc, input(alloc, prev, bytes, 0xffff_ffff))?;
     Ok(transaction(inputs, outputs))
@@ -110,7 +124,7 @@ pub fn nowhere(filling: &mut Filling) -> OutPoint {
 }
 
 /// A payment of a coin that is nowhere.
-fn payment(alloc: Global, filling: &mut Filling) -> Result<Tx, Fault> {
+fn payment(alloc: Global, filling: &mut Filling) -> Result<Tx, InputsFault> {
     let prev = nowhere(filling);
     let input = signed(filling);
     let outputs = outputs_to_keys(alloc, filling);
@@ -118,20 +132,20 @@ fn payment(alloc: Global, filling: &mut Filling) -> Result<Tx, Fault> {
 }
 
 /// The two outputs of a payment.
-fn outputs_to_keys(alloc: Global, filling: &mut Filling) -> Result<Vec<TxOut>, Fault> {
+fn outputs_to_keys(alloc: Global, filling: &mut Filling) -> Result<Vec<TxOut>, InputsFault> {
     let mut outputs = one(alloc, output_to_key(alloc, filling, 1000))?;
     put_made(&mut outputs, output_to_key(alloc, filling, 2000))?;
     Ok(outputs)
 }
 
 /// A transaction that makes the subsidy of the first blocks.
-fn coinbase(alloc: Global) -> Result<Tx, Fault> {
+fn coinbase(alloc: Global) -> Result<Tx, InputsFault> {
     let outputs = outputs(alloc, 1, 5_000_000_000, TRUE);
     spending(alloc, OutPoint::NULL, &[0x51, 0x51], outputs)
 }
 
 /// A block of a coinbase and so many payments, which breaks no rule by itself.
-pub fn block_of(alloc: Global, size: usize) -> Result<Block, Fault> {
+pub fn block_of(alloc: Global, size: usize) -> Result<Block, InputsFault> {
     let mut filling = Filling::new(5);
     let mut txs = one(alloc, coinbase(alloc))?;
     for _ in 0..size {
@@ -141,7 +155,7 @@ pub fn block_of(alloc: Global, size: usize) -> Result<Block, Fault> {
 }
 
 /// A block of a coinbase and these payments.
-pub fn block_with(alloc: Global, payments: Vec<Tx>) -> Result<Block, Fault> {
+pub fn block_with(alloc: Global, payments: Vec<Tx>) -> Result<Block, InputsFault> {
     under(alloc, ORPHAN, put_first(payments, coinbase(alloc)))
 }
 
@@ -157,7 +171,11 @@ const ORPHAN: Header = Header {
 
 /// A block of these transactions, where they were made, under this header with their root and the first nonce that
 /// meets the target.
-pub fn under(alloc: Global, header: Header, txs: Result<Vec<Tx>, Fault>) -> Result<Block, Fault> {
+pub fn under(
+    alloc: Global,
+    header: Header,
+    txs: Result<Vec<Tx>, InputsFault>,
+) -> Result<Block, InputsFault> {
     let txs = txs?;
     let root = root_of(alloc, txs.as_slice())?;
     let header = mined(Header { root, ..header });
@@ -166,7 +184,7 @@ pub fn under(alloc: Global, header: Header, txs: Result<Vec<Tx>, Fault>) -> Resu
 }
 
 /// The Merkle root of these transactions.
-fn root_of(alloc: Global, txs: &[Tx]) -> Result<Id, Fault> {
+fn root_of(alloc: Global, txs: &[Tx]) -> Result<Id, InputsFault> {
     let ids = ids(alloc, txs)?;
     let (root, _) = merkle(alloc, ids.as_slice())?;
     Ok(root)

@@ -1,6 +1,6 @@
 //! Random bytes, the same in each run.
 
-use crate::inputs::fault::Fault;
+use crate::inputs::fault::InputsFault;
 use crate::inputs::lists::put;
 use hash::Id;
 use rand_core::{Rng, SeedableRng};
@@ -39,8 +39,8 @@ impl Filling {
     }
 }
 
-/// So many random ids.
-pub fn some_ids(alloc: Global, size: usize) -> Result<Vec<Id>, Fault> {
+/// This many random ids.
+pub fn some_ids(alloc: Global, size: usize) -> Result<Vec<Id>, InputsFault> {
     let mut filling = Filling::new(4);
     let mut ids = Vec::new(alloc);
     for _ in 0..size {

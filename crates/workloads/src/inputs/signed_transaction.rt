@@ -1,6 +1,6 @@
 //! A transaction of many inputs, each of which is signed by itself.
 
-use crate::inputs::fault::Fault;
+use crate::inputs::fault::InputsFault;
 use crate::inputs::lists::put_made;
 use crate::inputs::payments::{input, nowhere, transaction};
 use crate::inputs::random_bytes::Filling;
@@ -12,7 +12,7 @@ use txn::Tx;
 const OP_CHECKSIG: u8 = 0xac;
 
 /// A transaction of so many inputs of one script, and no output.
-pub fn of_inputs(alloc: Global, size: usize, script: &[u8]) -> Result<Tx, Fault> {
+pub fn of_inputs(alloc: Global, size: usize, script: &[u8]) -> Result<Tx, InputsFault> {
     let mut filling = Filling::new(12);
     let mut inputs = Vec::new(alloc);
     for _ in 0..size {
@@ -33,7 +33,7 @@ pub struct Signed {
 
 impl Signed {
     /// One of so many inputs.
-    pub fn new(alloc: Global, size: usize) -> Result<Signed, Fault> {
+    pub fn new(alloc: Global, size: usize) -> Result<Signed, InputsFault> {
         let mut filling = Filling::new(13);
         let key = key(&mut filling, 0);
         let signer = (key, signature(&mut filling));
@@ -46,7 +46,7 @@ impl Signed {
     }
 
     /// The table in which the signature is valid for each of these inputs.
-    pub fn table(&self, alloc: Global) -> Result<Table, Fault> {
+    pub fn table(&self, alloc: Global) -> Result<Table, InputsFault> {
         let mut table = Table::new(alloc);
         for number in 0..self.tx.inputs.len() {
             let digest = digest(&self.tx, number, self.spent.as_slice());

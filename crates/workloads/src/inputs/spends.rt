@@ -1,6 +1,6 @@
 //! Inputs with the scripts that they spend, and the signatures that are valid for them.
 
-use crate::inputs::fault::Fault;
+use crate::inputs::fault::InputsFault;
 use crate::inputs::lists::{copied, one, put};
 use crate::inputs::payments::{nowhere, output_to_key, spending, to_key_hash};
 use crate::inputs::random_bytes::Filling;
@@ -25,7 +25,10 @@ pub struct Spend {
 
 impl Spend {
     /// Of a transaction and a script, where they were made.
-    pub fn of(tx: Result<Tx, Fault>, spent: Result<Vec<u8>, Fault>) -> Result<Spend, Fault> {
+    pub fn of(
+        tx: Result<Tx, InputsFault>,
+        spent: Result<Vec<u8>, InputsFault>,
+    ) -> Result<Spend, InputsFault> {
         let tx = tx?;
         let spent = spent?;
         Ok(Spend { tx, spent })
@@ -50,23 +53,27 @@ impl Spends {
     /// A spend that these sign.
     pub fn one(
         alloc: Global,
-        spend: Result<Spend, Fault>,
+        spend: Result<Spend, InputsFault>,
         signers: &[Signer],
-    ) -> Result<Spends, Fault> {
+    ) -> Result<Spends, InputsFault> {
         let mut spends = Spends::new(alloc);
         spends.add(spend, signers)?;
         Ok(spends)
     }
 
     /// Adds a spend that these sign.
-    fn add(&mut self, spend: Result<Spend, Fault>, signers: &[Signer]) -> Result<(), Fault> {
+    fn add(
+        &mut self,
+        spend: Result<Spend, InputsFault>,
+        signers: &[Signer],
+    ) -> Result<(), InputsFault> {
         let spend = spend?;
         self.sign(&spend, signers)?;
         put(&mut self.list, spend)
     }
 
     /// Makes signatures valid for the input of a spend.
-    fn sign(&mut self, spend: &Spend, signers: &[Signer]) -> Result<(), Fault> {
+    fn sign(&mut self, spend: &Spend, signers: &[Signer]) -> Result<(), InputsFault> {
         let digest = digest(&spend.tx, 0, spend.spent.as_slice());
         for signer in signers {
             add_valid(&mut self.table, signer, &digest)?;
@@ -75,7 +82,7 @@ impl Spends {
     }
 
     /// A job for each of them, with all rules in force.
-    pub fn jobs(&self, alloc: Global) -> Result<Vec<Job<'_>>, Fault> {
+    pub fn jobs(&self, alloc: Global) -> Result<Vec<Job<'_>>, InputsFault> {
         let mut jobs = Vec::new(alloc);
         for spend in self.list.as_slice() {
             put(&mut jobs, job(spend))?;
@@ -95,7 +102,7 @@ fn job(spend: &Spend) -> Job<'_> {
 }
 
 /// Makes a key's signature of a digest valid.
-pub fn add_valid(table: &mut Table, signer: &Signer, digest: &[u8; 32]) -> Result<(), Fault> {
+pub fn add_valid(table: &mut Table, signer: &Signer, digest: &[u8; 32]) -> Result<(), InputsFault> {
     table.add(signer.0.as_slice(), signer.1.as_slice(), digest)?;
     Ok(())
 }
@@ -137,7 +144,7 @@ pub fn key_push(key: &[u8; 33]) -> [u8; 34] {
 }
 
 /// A transaction with one input of this script, and one output.
-pub fn spender(alloc: Global, filling: &mut Filling, input: &[u8]) -> Result<Tx, Fault> {
+pub fn spender(alloc: Global, filling: &mut Filling, input: &[u8]) -> Result<Tx, InputsFault> {
     let prev = nowhere(filling);
     let outputs = one(alloc, output_to_key(alloc, filling, 1000));
     spending(alloc, prev, input, outputs)
@@ -160,7 +167,7 @@ pub fn signed_input(signer: &Signer) -> [u8; 106] {
 }
 
 /// Payments to the hash of a key.
-pub fn to_keys(alloc: Global, size: usize) -> Result<Spends, Fault> {
+pub fn to_keys(alloc: Global, size: usize) -> Result<Spends, InputsFault> {
     let mut filling = Filling::new(6);
     let mut spends = Spends::new(alloc);
     for number in 0..size {
@@ -196,7 +203,7 @@ fn input_of_two(signatures: &[[u8; 70]; 2]) -> [u8; 145] {
 }
 
 /// Payments to two of three keys, signed by the first two.
-pub fn to_two_of_three(alloc: Global, size: usize) -> Result<Spends, Fault> {
+pub fn to_two_of_three(alloc: Global, size: usize) -> Result<Spends, InputsFault> {
     let mut filling = Filling::new(7);
     let mut spends = Spends::new(alloc);
     for number in 0..size {
@@ -213,7 +220,7 @@ impl Spends {
         alloc: Global,
         filling: &mut Filling,
         number: u64,
-    ) -> Result<(), Fault> {
+    ) -> Result<(), InputsFault> {
         let key = key(filling, number);
         let signer = (key, signature(filling));
         let tx = spender(alloc, filling, signed_input(&signer).as_slice());
@@ -227,7 +234,7 @@ impl Spends {
         alloc: Global,
         filling: &mut Filling,
         first: u64,
-    ) -> Result<(), Fault> {
+    ) -> Result<(), InputsFault> {
         let keys = [
             key(filling, first),
             key(filling, first.wrapping_add(1)),

@@ -1,7 +1,7 @@
 //! Chains with coins for payments.
 
 use crate::inputs::branch::{Branch, bytes_of};
-use crate::inputs::fault::Fault;
+use crate::inputs::fault::InputsFault;
 use crate::inputs::lists::{copied, put, put_made};
 use crate::inputs::payments::{TRUE, outputs, signed, spending};
 use crate::inputs::random_bytes::Filling;
@@ -9,7 +9,7 @@ use hash::Id;
 use std::alloc::Global;
 use txn::{OutPoint, Tx, ids};
 
-/// So many blocks stand below the first that spends a coinbase.
+/// How many blocks stand below the first that spends a coinbase.
 const UNRIPE: usize = 100;
 
 /// The most outputs of a transaction that spends a coinbase.
@@ -35,7 +35,7 @@ fn payments(
     filling: &mut Filling,
     coins: &[OutPoint],
     paid: &Paid<'_>,
-) -> Result<Vec<Tx>, Fault> {
+) -> Result<Vec<Tx>, InputsFault> {
     let mut payments = Vec::new(alloc);
     for prev in coins {
         put_made(&mut payments, payment(alloc, filling, *prev, paid))?;
@@ -48,20 +48,24 @@ fn payment(
     filling: &mut Filling,
     prev: OutPoint,
     paid: &Paid<'_>,
-) -> Result<Tx, Fault> {
+) -> Result<Tx, InputsFault> {
     let input = signed(filling);
     let outputs = outputs(alloc, paid.outputs, paid.worth, paid.script);
     spending(alloc, prev, input.as_slice(), outputs)
 }
 
 /// Puts the outpoints that payments made behind others.
-fn put_outpoints(alloc: Global, made: &mut Vec<OutPoint>, payments: &[Tx]) -> Result<(), Fault> {
+fn put_outpoints(
+    alloc: Global,
+    made: &mut Vec<OutPoint>,
+    payments: &[Tx],
+) -> Result<(), InputsFault> {
     let ids = ids(alloc, payments)?;
     put_each(made, payments, ids.as_slice())
 }
 
 /// Puts the outpoints of transactions of these ids behind others.
-fn put_each(made: &mut Vec<OutPoint>, payments: &[Tx], ids: &[Id]) -> Result<(), Fault> {
+fn put_each(made: &mut Vec<OutPoint>, payments: &[Tx], ids: &[Id]) -> Result<(), InputsFault> {
     for (tx, id) in payments.iter().zip(ids.iter()) {
         put_outputs(made, id, tx.outputs.len())?;
     }
@@ -69,7 +73,7 @@ fn put_each(made: &mut Vec<OutPoint>, payments: &[Tx], ids: &[Id]) -> Result<(),
 }
 
 /// Puts so many outputs of a transaction behind others.
-fn put_outputs(made: &mut Vec<OutPoint>, id: &Id, count: usize) -> Result<(), Fault> {
+fn put_outputs(made: &mut Vec<OutPoint>, id: &Id, count: usize) -> Result<(), InputsFault> {
     for index in 0..count.min(1_000_000) as u32 {
         put(made, OutPoint { id: *id, index })?;
     }
@@ -93,7 +97,7 @@ pub struct Start {
 
 impl Start {
     /// A chain whose first coinbases are ripe, some of which are spent for so many coins of a script.
-    pub fn new(alloc: Global, coins: usize, script: &[u8]) -> Result<Start, Fault> {
+    pub fn new(alloc: Global, coins: usize, script: &[u8]) -> Result<Start, InputsFault> {
         let mut start = Start {
             branch: Branch::new(1),
             filling: Filling::new(16),
@@ -107,14 +111,14 @@ impl Start {
     }
 
     /// A chain that leaves so many coins for payments, and so many to be read, whose places stand in another order.
-    pub fn shuffled(alloc: Global, payments: usize, coins: usize) -> Result<Start, Fault> {
+    pub fn shuffled(alloc: Global, payments: usize, coins: usize) -> Result<Start, InputsFault> {
         let mut start = Start::new(alloc, payments.saturating_add(coins / 10), TRUE)?;
         start.spread(alloc, coins)?;
         shuffle(start.spread.as_mut_slice());
         Ok(start)
     }
 
-    fn begin(&mut self, alloc: Global, coins: usize, script: &[u8]) -> Result<(), Fault> {
+    fn begin(&mut self, alloc: Global, coins: usize, script: &[u8]) -> Result<(), InputsFault> {
         for _ in 0..UNRIPE {
             self.ripen(alloc)?;
         }
@@ -122,20 +126,20 @@ impl Start {
     }
 
     /// One more block without payments, whose coinbase is spent later.
-    fn ripen(&mut self, alloc: Global) -> Result<(), Fault> {
+    fn ripen(&mut self, alloc: Global) -> Result<(), InputsFault> {
         let block = self.branch.next_block(alloc, Vec::new(alloc))?;
         put_made(&mut self.blocks, bytes_of(alloc, &block))?;
         put_outpoints(alloc, &mut self.unripe, block.txs.as_slice())
     }
 
     /// One more block, of these payments.
-    fn add(&mut self, alloc: Global, payments: Vec<Tx>) -> Result<(), Fault> {
+    fn add(&mut self, alloc: Global, payments: Vec<Tx>) -> Result<(), InputsFault> {
         let bytes = self.branch.next_bytes(alloc, payments);
         put_made(&mut self.blocks, bytes)
     }
 
-    /// So many more blocks without payments.
-    pub fn add_empty(&mut self, alloc: Global, count: usize) -> Result<(), Fault> {
+    /// This many more blocks without payments.
+    pub fn add_empty(&mut self, alloc: Global, count: usize) -> Result<(), InputsFault> {
         for _ in 0..count {
             self.add(alloc, Vec::new(alloc))?;
         }
@@ -143,11 +147,11 @@ impl Start {
     }
 
     /// Spends coinbases for so many coins of a script, in blocks of up to 20,000.
-    fn fan(&mut self, alloc: Global, count: usize, script: &[u8]) -> Result<(), Fault> {
+    fn fan(&mut self, alloc: Global, count: usize, script: &[u8]) -> Result<(), InputsFault> {
         self.unripe.as_mut_slice().reverse();
         for made in (0..count).step_by(FAN) {
             let Some(prev) = self.unripe.pop() else {
-                return Err(Fault::TooManyCoins);
+                return Err(InputsFault::TooManyCoins);
             };
             let outputs = count.saturating_sub(made).min(FAN);
             self.fan_one(alloc, prev, outputs, script)?;
@@ -161,7 +165,7 @@ impl Start {
         prev: OutPoint,
         outputs: usize,
         script: &[u8],
-    ) -> Result<(), Fault> {
+    ) -> Result<(), InputsFault> {
         let paid = Paid {
             outputs,
             worth: WORTH,
@@ -173,7 +177,7 @@ impl Start {
     }
 
     /// Spends the last coins, each for ten, until there are so many.
-    pub fn spread(&mut self, alloc: Global, count: usize) -> Result<(), Fault> {
+    pub fn spread(&mut self, alloc: Global, count: usize) -> Result<(), InputsFault> {
         let keep = self.coins.len().saturating_sub(count / 10);
         for _ in (keep..self.coins.len()).step_by(SPREAD) {
             let from = self.coins.len().saturating_sub(SPREAD).max(keep);
@@ -182,7 +186,7 @@ impl Start {
         Ok(())
     }
 
-    fn spread_from(&mut self, alloc: Global, from: usize) -> Result<(), Fault> {
+    fn spread_from(&mut self, alloc: Global, from: usize) -> Result<(), InputsFault> {
         let paid = Paid {
             outputs: 10,
             worth: WORTH / 10,
@@ -202,7 +206,7 @@ pub fn paying(
     branch: Branch,
     coins: &[OutPoint],
     count: usize,
-) -> Result<Vec<Vec<u8>>, Fault> {
+) -> Result<Vec<Vec<u8>>, InputsFault> {
     let mut branch = branch;
     let mut filling = Filling::new(u64::from(branch.number).wrapping_add(20));
     let mut coins = copied(alloc, coins)?;
@@ -220,7 +224,7 @@ fn next_paying(
     branch: &mut Branch,
     filling: &mut Filling,
     coins: &mut Vec<OutPoint>,
-) -> Result<Vec<u8>, Fault> {
+) -> Result<Vec<u8>, InputsFault> {
     let paid = Paid {
         outputs: 1,
         worth: WORTH,
@@ -241,14 +245,14 @@ pub fn shuffle(places: &mut [OutPoint]) {
     }
 }
 
-/// So many branches on one base, numbered from 2 on, each of so many blocks that pay these coins.
+/// This many branches on one base, numbered from 2 on, each of `count` blocks that pay these coins.
 pub fn branches(
     alloc: Global,
     base: Branch,
     coins: &[OutPoint],
     branches: u32,
     count: usize,
-) -> Result<Vec<Vec<Vec<u8>>>, Fault> {
+) -> Result<Vec<Vec<Vec<u8>>>, InputsFault> {
     let mut made = Vec::new(alloc);
     for number in 0..branches {
         let branch = Branch {

@@ -8,7 +8,7 @@ pub returns-in_err-len-clause-refused : goal.returns-in_err-len-clause-refused
 returns-in_err-len-clause-refused g c =
     let p = err_from_is_err_and c.from_residual-in_err-len.result c.from_residual-in_err-len.ensures.1 in
     let short : length (take c.in_ok-count.count c.fill.new.buffer) < 8 → g.R.Source.to_come c.fill.new.source ≡ [] = λ h.
-    c.in_ok-count.ensures.end (omega (arith, h, c.in_ok-count.ensures.len, length-take-le c.in_ok-count.count c.fill.new.buffer c.in_ok-count.ensures.room.1)) in
+    c.in_ok-count.ensures.end (omega (arith, h, c.in_ok-count.ensures.len, length-take-le c.in_ok-count.count c.fill.new.buffer c.in_ok-count.ensures.room)) in
     rw (p.1, p.2) (subst (λ (rest : List ℕ). IsFault c.args.place rest c.in_err-len.field-0.0) (sym c.in_ok-count.ensures.came) (c.in_err-len.ensures.refused _ short))
 
 pub returns-in_err-end-clause-remain : goal.returns-in_err-end-clause-remain

@@ -9,6 +9,5 @@ loop-at-preserved g c =
       search rules,
       come_next _ _ _ _ _ c.loop-at.invariant.2 c.in_ok-count.ensures.came ∙ ap (λ (t : List ℕ). t ++ g.R.Source.to_come c.read.new.self) (sym part),
       search rules,
-      search rules,
-      remain_trans _ _ _ c.loop-at.invariant.5 (_, c.in_ok-count.ensures.came),
+      remain_trans _ _ _ c.loop-at.invariant.4 (_, c.in_ok-count.ensures.came),
     )

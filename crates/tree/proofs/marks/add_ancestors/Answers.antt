@@ -1,7 +1,7 @@
 use Rattle.std.proofs.Common.{ℕ, true, false, ◌||◌, get_or, sym, ap, ◌∙◌, arith}
 use Rattle.std.proofs.Math.ListN.{set}
 use Rattle.std.proofs.lemmas.List.{length-set}
-use Rattle.tree.specs.declared.node.Node.{Node}
+use Rattle.tree.specs.declared.block_index.BlockIndex.{BlockIndex}
 use Rattle.tree.specs.Branches.{on}
 use Rattle.tree.specs.Nodes.{blocks_of}
 use Rattle.tree.proofs.Changes.{parent_before}
@@ -19,7 +19,7 @@ pub down-smaller : goal.down-smaller
 down-smaller c =
     let z = c.if-next-eq0.false in
     let b = (parent_before c.args.nodes.now c.down.next c.index-nodes-next.result c.requires.nodes (omega arith) c.down.invariant.0 c.index-nodes-next.is).1 in
-    let e = ap (λ (n : Node). n.parent) c.index-nodes-next.is in
+    let e = ap (λ (n : BlockIndex). n.parent) c.index-nodes-next.is in
     omega arith
 
 pub down-preserved : goal.down-preserved
@@ -31,7 +31,7 @@ down-preserved c =
     let k = i.0 in
     let l = i.1 in
     let b = (parent_before ns c.down.next n c.requires.nodes (omega arith) k c.index-nodes-next.is).1 in
-    let e = ap (λ (m : Node). m.parent) c.index-nodes-next.is in (
+    let e = ap (λ (m : BlockIndex). m.parent) c.index-nodes-next.is in (
       omega arith,
       length-set c.down.related.items c.down.next true ∙ l,
       λ x h. ap (λ (q : ℕ). on (blocks_of ns) q x || get_or (set c.down.related.items c.down.next true) x false) (sym e)

@@ -1,7 +1,7 @@
 use Rattle.std.proofs.Common.{◌≡◌, ℕ, Bool, false, List, [], ◌∷◌, ◌++◌, length, get_or, sym, ap, ◌∙◌, inl, inr, arith}
 use Rattle.std.proofs.lemmas.Bool.{cases_eq}
 use Rattle.std.proofs.lemmas.List.{length-append}
-use Rattle.tree.specs.declared.node.Node.{Node}
+use Rattle.tree.specs.declared.block_index.BlockIndex.{BlockIndex}
 use Rattle.tree.specs.Branches.{on}
 use Rattle.tree.specs.Nodes.{blocks_of}
 use Rattle.tree.proofs.Changes.{parent_before}
@@ -12,7 +12,7 @@ pub stands_on-stands-requires : goal.stands_on-stands-requires
 stands_on-stands-requires c = λ z.
     let t = c.loop-next-test.true in
     let b = (parent_before c.args.nodes.now c.loop-next.next c.index-nodes-next.result c.requires.nodes z t c.index-nodes-next.is).1 in
-    let e = ap (λ (n : Node). n.parent) c.index-nodes-next.is in
+    let e = ap (λ (n : BlockIndex). n.parent) c.index-nodes-next.is in
     let i = c.loop-next.invariant.0 in
     let l = ap (λ (k : List Bool). length k) c.deref.ensures.value in
     omega arith
@@ -34,7 +34,7 @@ loop-next-preserved c =
     ∙ stands ns p n c.args.place (get_or c.deref.result.now (get_or ns p n).parent false) c.requires.nodes t c.index-nodes-next.is
     (λ z. let b = (parent_before ns p n c.requires.nodes z t c.index-nodes-next.is).1 in
     ap (λ (k : List Bool). get_or k (get_or ns p n).parent false) c.deref.ensures.value
-    ∙ ap (λ (q : ℕ). get_or flags q false) (ap (λ (m : Node). m.parent) (sym c.index-nodes-next.is))
+    ∙ ap (λ (q : ℕ). get_or flags q false) (ap (λ (m : BlockIndex). m.parent) (sym c.index-nodes-next.is))
     ∙ i.1 n.parent (omega arith))
     in (
       omega arith,

@@ -1,7 +1,7 @@
 use Rattle.std.proofs.Common.{◌≡◌, ℕ, ◌<◌, true, List, length, get_or, refl, sym, ap, ◌∙◌, arith}
 use Rattle.std.proofs.Math.ListN.{set}
 use Rattle.std.proofs.lemmas.List.{length-set, get_or_default}
-use Rattle.tree.specs.declared.node.Mark.{Mark}
+use Rattle.tree.specs.declared.block_index.Mark.{Mark}
 use Rattle.tree.specs.Nodes.{blank, mark_at}
 use Rattle.tree.proofs.Changes.{set_there, set_kept, set_joined, usable_marked}
 use Rattle.tree.proofs.marks.mark_block.Goals as goal

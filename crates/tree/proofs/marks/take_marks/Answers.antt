@@ -1,5 +1,5 @@
 use Rattle.std.proofs.Common.{◌≡◌, ℕ, false, not, ◌&&◌, [], get_or, sym, ap, ◌∙◌, arith}
-use Rattle.tree.specs.declared.node.Mark.{Mark}
+use Rattle.tree.specs.declared.block_index.Mark.{Mark}
 use Rattle.tree.specs.State.{has_no_mark}
 use Rattle.tree.specs.Nodes.{mark_at, state_of}
 use Rattle.tree.proofs.Changes.{usable_zero, usable_marked}

@@ -5,10 +5,10 @@ use Rattle.tree.specs.Names.{names}
 use Rattle.tree.specs.State.{with_call, has_no_mark}
 use Rattle.tree.specs.Sound.{IsBest}
 use Rattle.tree.specs.laws.AddedBlock.{place-bound}
-use Rattle.activate.specs.declared.path.Attempt.{Attempt}
+use Rattle.activate.specs.declared.path.TryOutcome.{TryOutcome}
 use Rattle.activate.specs.declared.plan.Edit.TheVariants.{Call}
 use Rattle.activate.specs.declared.plan.Settled.{Settled}
-use Rattle.activate.specs.inside.Paths.{IsAttempt}
+use Rattle.activate.specs.inside.Paths.{IsTryOutcome}
 use Rattle.block.specs.declared.block.Block.{Block}
 use Rattle.hash.specs.declared.id.Id.{Id}
 use Rattle.signatures.specs.Triple.{Triples}
@@ -79,7 +79,7 @@ module _ (triples : Triples) (a : CoreState) (follows : Follows a triples) (p : 
   best : IsBest called.state (has_no_mark called.state) (length called.state.blocks) first
   best = best-called r a follows.sound follows.active_is p kept high first first-is
 
-  tried : (attempt : Attempt) → IsAttempt r a.state.blocks a.active first attempt → IsTried r called first attempt
+  tried : (attempt : TryOutcome) → IsTryOutcome r a.state.blocks a.active first attempt → IsTried r called first attempt
   tried attempt came = record { can = can; best = best; one_try = one-try-called r a follows.sound follows.active_is p kept high first first-is; came = came }
 
   plan : (id : Id) → place_of names a.state.blocks id ≡ Some p → (s : Settled) → IsSettledBy r called first s

@@ -8,12 +8,12 @@ use Rattle.model.specs.Regtest.{regtest}
 use Rattle.model.specs.Rules.{Rules}
 use Rattle.model.specs.laws.Tries.{count_without_mark}
 use Rattle.std.proofs.lemmas.Result.{err_from_is_err_and}
-use Rattle.activate.specs.declared.path.Attempt.{Attempt}
-use Rattle.activate.specs.declared.path.Attempt.TheVariants.{Fails}
+use Rattle.activate.specs.declared.path.TryOutcome.{TryOutcome}
+use Rattle.activate.specs.declared.path.TryOutcome.TheVariants.{Fails}
 use Rattle.activate.specs.declared.path.FailedTry.{FailedTry}
 use Rattle.activate.specs.CoreState.{CoreState}
 use Rattle.activate.specs.Wants.{AreJoined}
-use Rattle.activate.specs.inside.Paths.{AreWantedOnWay, FailsAt, IsAttempt, IsValid, LeadsTo}
+use Rattle.activate.specs.inside.Paths.{AreWantedOnWay, FailsAt, IsTryOutcome, IsValid, LeadsTo}
 use Rattle.activate.specs.inside.Preparation.{HasOtherMarks, IsFailedTry, TriesLead}
 use Rattle.activate.proofs.Plans.{fewer-unmarked, tries_more, tries_none}
 use Rattle.activate.proofs.PutInPlace.{plan-marks}
@@ -26,10 +26,10 @@ module _ (r : Rules Block Id) (a : CoreState) (s t : State Block) (other : HasOt
   same = lead.other.blocks_are ∙ other.blocks_are
 
   -- what fails over the blocks of a is a failed try of t
-  failed_there : (p : ℕ) → p ≤ length t.blocks → {found : Attempt} {failed : FailedTry} → IsAttempt r a.state.blocks a.active p found → found ≡ Fails failed → IsFailedTry r t a.active p failed
+  failed_there : (p : ℕ) → p ≤ length t.blocks → {found : TryOutcome} {failed : FailedTry} → IsTryOutcome r a.state.blocks a.active p found → found ≡ Fails failed → IsFailedTry r t a.active p failed
   failed_there p kept {found} {failed} attempt is = record {
     kept = kept;
-    fails = subst (λ (u : Blocks Block). FailsAt r u a.active p failed) (sym same) (subst (λ (x : Attempt). IsAttempt r a.state.blocks a.active p x) is attempt);
+    fails = subst (λ (u : Blocks Block). FailsAt r u a.active p failed) (sym same) (subst (λ (x : TryOutcome). IsTryOutcome r a.state.blocks a.active p x) is attempt);
     flags = record { seen = lead.can.seen; bad_in_order = lead.can.bad_in_order; seen_in_order = lead.can.seen_in_order };
   }
 
@@ -66,7 +66,7 @@ returns-in-Succeeds-clause-prepared g c triples agrees =
     let a : CoreState = c.args.self.now in
     let p = c.best_usable-place.result in
     let r = regtest a.params triples in
-    let moves : LeadsTo r a.state.blocks a.active p c.in-Succeeds.found = subst (λ (x : Attempt). IsAttempt r a.state.blocks a.active p x) c.in-Succeeds.is (c.in_ok-found.ensures.attempt triples agrees) in
+    let moves : LeadsTo r a.state.blocks a.active p c.in-Succeeds.found = subst (λ (x : TryOutcome). IsTryOutcome r a.state.blocks a.active p x) c.in-Succeeds.is (c.in_ok-found.ensures.attempt triples agrees) in
     plan-marks r a c.args.overlay c.tries.overlay p c.in-Succeeds.found c.into_marks-marks.result (c.requires.can triples agrees) c.requires.other (c.tries.invariant triples agrees)
     c.best_usable-place.ensures moves c.into_marks-marks.ensures.are c.into_marks-marks.ensures.laid
 

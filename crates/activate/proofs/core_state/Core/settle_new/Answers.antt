@@ -5,7 +5,7 @@ use Rattle.tree.specs.State.{beats, with_block}
 use Rattle.model.specs.Regtest.{regtest}
 use Rattle.activate.specs.CoreState.{CoreState}
 use Rattle.activate.specs.Wants.{AreJoined}
-use Rattle.activate.specs.inside.Paths.{AreWantedOnWay, IsAttempt, IsValid}
+use Rattle.activate.specs.inside.Paths.{AreWantedOnWay, IsTryOutcome, IsValid}
 use Rattle.activate.specs.inside.Preparation.{CanTry, core_with_block}
 use Rattle.activate.proofs.NewBlock.{alone_new, below_new, best_new, can_new, settled_beside, tried_new}
 use Rattle.activate.proofs.WantsOfBlocks.{wanted_best}
@@ -75,7 +75,7 @@ settled_by-requires g c =
       core_with_block a b p,
       subst (λ (q : ℕ). Rattle.activate.specs.inside.Preparation.IsTried (regtest a.params triples) (core_with_block a b p) q c.in_ok-attempt.attempt) (sym (c.len.ensures.count ∙ Rattle.std.proofs.Common.ap (λ (x : CoreState). suc (length x.state.blocks)) c.self.view_is))
           (tried_new triples a (c.requires.follows triples agrees) c.requires.new.0 b p (c.requires.new.1 triples agrees) better c.in_ok-attempt.attempt
-          (subst (λ (x : CoreState). IsAttempt (regtest x.params triples) (record { block = b; parent = p } ∷ x.state.blocks) x.active (suc (length x.state.blocks)) c.in_ok-attempt.attempt) c.active_branch-active_branch.ensures.core (c.in_ok-attempt.ensures.attempt triples agrees))),
+          (subst (λ (x : CoreState). IsTryOutcome (regtest x.params triples) (record { block = b; parent = p } ∷ x.state.blocks) x.active (suc (length x.state.blocks)) c.in_ok-attempt.attempt) c.active_branch-active_branch.ensures.core (c.in_ok-attempt.ensures.attempt triples agrees))),
     )
 
 pub returns-clause-settled : goal.returns-clause-settled
@@ -88,6 +88,6 @@ returns-clause-settled g c triples agrees =
     let count = c.len.ensures.count ∙ Rattle.std.proofs.Common.ap (λ (x : CoreState). suc (length x.state.blocks)) c.self.view_is in
     let tried = subst (λ (q : ℕ). Rattle.activate.specs.inside.Preparation.IsTried (regtest a.params triples) (core_with_block a b p) q c.in_ok-attempt.attempt) (sym count)
     (tried_new triples a (c.requires.follows triples agrees) c.requires.new.0 b p (c.requires.new.1 triples agrees) better c.in_ok-attempt.attempt
-    (subst (λ (x : CoreState). IsAttempt (regtest x.params triples) (record { block = b; parent = p } ∷ x.state.blocks) x.active (suc (length x.state.blocks)) c.in_ok-attempt.attempt) c.active_branch-active_branch.ensures.core (c.in_ok-attempt.ensures.attempt triples agrees))) in
+    (subst (λ (x : CoreState). IsTryOutcome (regtest x.params triples) (record { block = b; parent = p } ∷ x.state.blocks) x.active (suc (length x.state.blocks)) c.in_ok-attempt.attempt) c.active_branch-active_branch.ensures.core (c.in_ok-attempt.ensures.attempt triples agrees))) in
     subst (λ (q : ℕ). Rattle.activate.specs.inside.Preparation.IsSettledBy (regtest a.params triples) (core_with_block a b p) q c.settled_by.result) count
     (c.settled_by.ensures (regtest a.params triples) (core_with_block a b p) tried)

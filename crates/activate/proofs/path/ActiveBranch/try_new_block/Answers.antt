@@ -19,11 +19,11 @@ use Rattle.model.specs.Valid.{branch_connects}
 use Rattle.model.specs.laws.InHand.{valid_new}
 use Rattle.activate.specs.CoreState.{branch_blocks, coins_after}
 use Rattle.activate.specs.Wants.{AreJoined, AreWantedAt}
-use Rattle.activate.specs.declared.path.Attempt.{Attempt}
+use Rattle.activate.specs.declared.path.TryOutcome.{TryOutcome}
 use Rattle.activate.specs.declared.path.BranchPath.{BranchPath}
 use Rattle.activate.specs.declared.path.Reorganisation.{Reorganisation}
 use Rattle.activate.specs.inside.Ascents.{top_of, AreMore, IsApplied, IsTop}
-use Rattle.activate.specs.inside.Paths.{AreWantedOnWay, FailsAt, IsAttempt, IsPath, IsStop}
+use Rattle.activate.specs.inside.Paths.{AreWantedOnWay, FailsAt, IsTryOutcome, IsPath, IsStop}
 use Rattle.activate.specs.laws.WalkUp.{top-above}
 use Rattle.activate.proofs.InHand.{fault-tip, leads_new, path_new, setting-tip, stop_below, stop_own, undo_grown, wanted_own, wanted_there}
 use Rattle.activate.proofs.WantsOfBlocks.{each_weaker, wanted_all-weaker, wanted_more, wanted_new, wanted_none, where_none, where_some}
@@ -62,7 +62,7 @@ returns-in-Err-clause-attempt g c triples agrees =
       path = path_new k t c.requires.parent b.active c.requires.active.kept path c.in_ok-path.ensures.path longer refl refl up;
       stop = stop_below k t c.requires.parent b.active c.requires.active.kept b.params.now triples path.up.items longer.up.items c.in-Err.stop.passed c.in-Err.stop.reason up stop;
     } in
-    subst (λ (x : Attempt). IsAttempt r (k ∷ t) b.active (suc (length t)) x) (sym c.failed.ensures) fails
+    subst (λ (x : TryOutcome). IsTryOutcome r (k ∷ t) b.active (suc (length t)) x) (sym c.failed.ensures) fails
 
 -- what blocks below want, and then what the new one does
 module _ {Stop : Type 0} (told : Stop → Option (List Triple)) (params : Params) (known : Known) (k : Kept Block) (t : Blocks Block) (kept : k.parent ≤ length t) (a : ℕ) (old : a ≤ length t) where
@@ -194,4 +194,4 @@ returns-in-None-wants-clause-attempt g c triples agrees =
       path = path_new k t c.requires.parent b.active c.requires.active.kept path w longer refl refl up;
       stop = stop_own k t c.requires.parent b.active c.requires.active.kept b.params.now triples path.up.items longer.up.items c.len-below.result reason up (let long = c.len-below.ensures in let fits = path.up.ok.0 in omega arith) (ap (branch_connects r t) (sym e) ∙ top.good) own;
     } in
-    subst (λ (x : Attempt). IsAttempt r (k ∷ t) b.active (suc (length t)) x) (sym c.failed-in-None-wants.ensures) fails
+    subst (λ (x : TryOutcome). IsTryOutcome r (k ∷ t) b.active (suc (length t)) x) (sym c.failed-in-None-wants.ensures) fails

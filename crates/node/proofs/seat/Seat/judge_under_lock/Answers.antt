@@ -17,7 +17,7 @@ returns-in-Ok-Submit-clause-answer g c =
     let q : Pass = c.see_all.new.self in
     let k : Command = command_of c.args.command.now in
     let o : Origin = g.J.Naming.origin in
-    let here = c.settle.new.self in
+    let here = c.publish_pending.new.self in
     let see = c.in_ok-at-in-Ok-Submit.ensures in
     let said = rw c.in-Ok-Submit.field-0-is at c.in-Ok-Submit.ensures.reply in
     let seen : here.journal ≡ q.seen = sym (ap (λ (h : PublishedState). h.journal) c.in-Ok-Submit.ensures.same) ∙ sym see.seen.0 in
@@ -25,10 +25,10 @@ returns-in-Ok-Submit-clause-answer g c =
 
 pub unreachable-requires : goal.unreachable-requires
 unreachable-requires g c =
-    never_marked g.J.Naming.origin c.settle.new.self.journal (command_of c.args.command.now) _ c.requires.submits (rw c.in-Ok-Mark.field-0-is at c.in-Ok-Mark.ensures.reply)
+    never_marked g.J.Naming.origin c.publish_pending.new.self.journal (command_of c.args.command.now) _ c.requires.submits (rw c.in-Ok-Mark.field-0-is at c.in-Ok-Mark.ensures.reply)
 
-pub returns-then-not-settle-clause-own : goal.returns-then-not-settle-clause-own
-returns-then-not-settle-clause-own g c = let s = c.self.inside in rw (← c.self.view_is) (own_begins s.token s.answered s.seen.entries s.owed.items)
+pub returns-then-not-publish_pending-clause-own : goal.returns-then-not-publish_pending-clause-own
+returns-then-not-publish_pending-clause-own g c = let s = c.self.inside in rw (← c.self.view_is) (own_begins s.token s.answered s.seen.entries s.owed.items)
 
 pub returns-in-Err-Memory-clause-own : goal.returns-in-Err-Memory-clause-own
 returns-in-Err-Memory-clause-own g c = let s = c.self.inside in rw (← c.self.view_is) (own_begins s.token s.answered s.seen.entries s.owed.items)

@@ -1,5 +1,5 @@
 use Rattle.std.proofs.Common.{List, sym, ap, ◌∙◌, subst}
-use Rattle.tree.specs.declared.node.Mark.{Mark}
+use Rattle.tree.specs.declared.block_index.Mark.{Mark}
 use Rattle.tree.specs.Nodes.{AreMarks, laid}
 use Rattle.tree.proofs.Laid.{own_laid, own_marks}
 use Rattle.tree.proofs.overlay.Overlay.over.Goals as goal

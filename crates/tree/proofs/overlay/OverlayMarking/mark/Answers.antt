@@ -1,8 +1,8 @@
 use Rattle.std.proofs.Common.{◌||◌, eqb, List, [], length, sym, ap, ◌∙◌, subst, arith}
 use Rattle.std.proofs.lemmas.Bool.{ne_eqb}
 use Rattle.block.specs.declared.block.Block.{Block}
-use Rattle.tree.specs.declared.node.Node.{Node}
-use Rattle.tree.specs.declared.node.Mark.{Mark}
+use Rattle.tree.specs.declared.block_index.BlockIndex.{BlockIndex}
+use Rattle.tree.specs.declared.block_index.Mark.{Mark}
 use Rattle.tree.specs.State.{State, with_mark}
 use Rattle.tree.specs.Nodes.{AreMarks, laid, state_of}
 use Rattle.tree.specs.inside.Nodes.{AreUsable}
@@ -13,11 +13,11 @@ use Rattle.tree.proofs.overlay.OverlayMarking.mark.Goals as goal
 pub mark_block-requires-clause-count : goal.mark_block-requires-clause-count
 mark_block-requires-clause-count c =
     ap (λ (l : List Mark). length l) c.as_mut_slice.ensures.value ∙ same_count c.self.invariant c.tree.inside.nodes.items c.tree.invariant.some (blocks_there c.tree.invariant c.tree.view_is)
-    ∙ sym (ap (λ (l : List Node). length l) c.as_slice.ensures.value)
+    ∙ sym (ap (λ (l : List BlockIndex). length l) c.as_slice.ensures.value)
 
 pub mark_block-requires-clause-usable : goal.mark_block-requires-clause-usable
 mark_block-requires-clause-usable c =
-    subst (λ (l : List Node). AreUsable (state_of l c.as_mut_slice.result.now []) c.as_mut_slice.result.now (length l)) (sym c.as_slice.ensures.value)
+    subst (λ (l : List BlockIndex). AreUsable (state_of l c.as_mut_slice.result.now []) c.as_mut_slice.result.now (length l)) (sym c.as_slice.ensures.value)
     (subst (λ (l : List Mark). AreUsable (state_of c.tree.inside.nodes.items l []) l (length c.tree.inside.nodes.items)) (sym c.as_mut_slice.ensures.value)
     (usable_before c.self.invariant c.tree.inside.nodes.items c.tree.invariant.some (blocks_there c.tree.invariant c.tree.view_is)))
 
@@ -27,7 +27,7 @@ mark_block-requires-clause-kept c =
     let n = same_count c.self.invariant c.tree.inside.nodes.items c.tree.invariant.some (blocks_there c.tree.invariant c.tree.view_is) in
     let m = c.self.invariant.count in
     let r = c.requires.kept in
-    let l = ap (λ (l : List Node). length l) c.as_slice.ensures.value in
+    let l = ap (λ (l : List BlockIndex). length l) c.as_slice.ensures.value in
     omega arith
 
 pub invariant_of-self : goal.invariant_of-self

@@ -4,8 +4,8 @@ use Rattle.std.specs.List.{list_any}
 use Rattle.std.specs.Prelude.{nat_eq}
 use Rattle.std.specs.Map.{lookup}
 use Rattle.hash.specs.declared.id.Id.{Id}
-use Rattle.tree.specs.declared.node.Node.{Node}
-use Rattle.tree.specs.declared.node.Mark.{Mark}
+use Rattle.tree.specs.declared.block_index.BlockIndex.{BlockIndex}
+use Rattle.tree.specs.declared.block_index.Mark.{Mark}
 use Rattle.hash.specs.Id.{same_id}
 use Rattle.tree.specs.Names.{names}
 use Rattle.tree.specs.Nodes.{state_of}
@@ -17,9 +17,9 @@ pub invariant_of-result : goal.invariant_of-result
 invariant_of-result c =
     let ids = c.insert.new.self.entries in
     let leaves = c.insert-2.new.self.keys in
-    let ns : ◌≡◌ {A = List Node} c.push.new.self.items (first_node ∷ []) = c.in_ok-push.ensures.items ∙ ap (λ (l : List Node). l ++ c.genesis_node.result ∷ []) c.new-nodes.ensures.items ∙ ap (λ (n : Node). n ∷ []) c.genesis_node.ensures in
+    let ns : ◌≡◌ {A = List BlockIndex} c.push.new.self.items (first_node ∷ []) = c.in_ok-push.ensures.items ∙ ap (λ (l : List BlockIndex). l ++ c.genesis_node.result ∷ []) c.new-nodes.ensures.items ∙ ap (λ (n : BlockIndex). n ∷ []) c.genesis_node.ensures in
     let ms : ◌≡◌ {A = List Mark} c.push-2.new.self.items (first_mark ∷ []) = c.in_ok-push-2.ensures.items ∙ ap (λ (l : List Mark). l ++ first_mark ∷ []) c.new-marks.ensures.items in
-    subst (λ (l : List Node). IsRight l c.push-2.new.self.items c.new.result.items ids leaves) (sym ns)
+    subst (λ (l : List BlockIndex). IsRight l c.push-2.new.self.items c.new.result.items ids leaves) (sym ns)
     (subst (λ (l : List Mark). IsRight (first_node ∷ []) l c.new.result.items ids leaves) (sym ms)
     (subst (λ (l : List ℕ). IsRight (first_node ∷ []) (first_mark ∷ []) l ids leaves) (sym c.new.ensures.items)
     (right_opened ids leaves
@@ -38,9 +38,9 @@ invariant_of-result c =
 
 pub returns : goal.returns
 returns c =
-    let ns : ◌≡◌ {A = List Node} c.push.new.self.items (first_node ∷ []) = c.in_ok-push.ensures.items ∙ ap (λ (l : List Node). l ++ c.genesis_node.result ∷ []) c.new-nodes.ensures.items ∙ ap (λ (n : Node). n ∷ []) c.genesis_node.ensures in
+    let ns : ◌≡◌ {A = List BlockIndex} c.push.new.self.items (first_node ∷ []) = c.in_ok-push.ensures.items ∙ ap (λ (l : List BlockIndex). l ++ c.genesis_node.result ∷ []) c.new-nodes.ensures.items ∙ ap (λ (n : BlockIndex). n ∷ []) c.genesis_node.ensures in
     let ms : ◌≡◌ {A = List Mark} c.push-2.new.self.items (first_mark ∷ []) = c.in_ok-push-2.ensures.items ∙ ap (λ (l : List Mark). l ++ first_mark ∷ []) c.new-marks.ensures.items in
-    ap (λ (l : List Node). state_of l c.push-2.new.self.items c.new.result.items) ns
+    ap (λ (l : List BlockIndex). state_of l c.push-2.new.self.items c.new.result.items) ns
     ∙ ap (λ (l : List Mark). state_of (first_node ∷ []) l c.new.result.items) ms
     ∙ ap (λ (l : List ℕ). state_of (first_node ∷ []) (first_mark ∷ []) l) c.new.ensures.items
     ∙ opened

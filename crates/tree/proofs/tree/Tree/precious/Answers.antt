@@ -4,8 +4,8 @@ use Rattle.std.proofs.lemmas.Bool.{cases_eq, ne_eqb}
 use Rattle.std.proofs.lemmas.List.{length-reverse, reverse-append}
 use Rattle.hash.specs.declared.id.Id.{Id}
 use Rattle.block.specs.declared.block.Block.{Block}
-use Rattle.tree.specs.declared.node.Node.{Node}
-use Rattle.tree.specs.declared.node.Mark.{Mark}
+use Rattle.tree.specs.declared.block_index.BlockIndex.{BlockIndex}
+use Rattle.tree.specs.declared.block_index.Mark.{Mark}
 use Rattle.tree.specs.Branches.{has}
 use Rattle.tree.specs.State.{State, rank_in, with_call}
 use Rattle.tree.specs.Nodes.{mark_at, state_of}
@@ -20,7 +20,7 @@ use Rattle.tree.proofs.tree.Tree.precious.Goals as goal
 called : (cs ds : List ℕ) (p : ℕ) → ds ≡ cs ++ p ∷ [] → ◌≡◌ {A = List ℕ} (reverse ds) (p ∷ reverse cs)
 called cs ds p e = ap reverse e ∙ reverse-append cs (p ∷ [])
 
-module _ {ns : List Node} {ms : List Mark} {cs : List ℕ} {is : List (Id × ℕ)} {ls : List ℕ} (right : IsRight ns ms cs is ls) {s : State Block} (view : state_of ns ms cs ≡ s)
+module _ {ns : List BlockIndex} {ms : List Mark} {cs : List ℕ} {is : List (Id × ℕ)} {ls : List ℕ} (right : IsRight ns ms cs is ls) {s : State Block} (view : state_of ns ms cs ≡ s)
     (p : ℕ) (stands : p ≤ length s.blocks) (m : Mark) (e : m ≡ get_or ms p m) (ds : List ℕ) (last : ds ≡ cs ++ p ∷ []) (rank : ℕ) where
   -- the tree with the rank of one more call is right
   right_called : rank ≡ length ds → IsRight ns (set ms p (record m { rank = rank })) ds is ls

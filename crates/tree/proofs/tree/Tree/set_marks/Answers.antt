@@ -1,5 +1,5 @@
 use Rattle.std.proofs.Common.{List, sym, ap, ◌∙◌, subst}
-use Rattle.tree.specs.declared.node.Mark.{Mark}
+use Rattle.tree.specs.declared.block_index.Mark.{Mark}
 use Rattle.tree.specs.Nodes.{AreMarks, laid}
 use Rattle.tree.proofs.Laid.{right_laid, state_laid}
 use Rattle.tree.proofs.tree.Tree.set_marks.Goals as goal

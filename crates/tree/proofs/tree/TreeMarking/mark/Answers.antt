@@ -2,8 +2,8 @@ use Rattle.std.proofs.Common.{◌≡◌, ℕ, ◌<◌, ◌||◌, eqb, List, [], 
 use Rattle.std.proofs.lemmas.Bool.{ne_eqb}
 use Rattle.hash.specs.declared.id.Id.{Id}
 use Rattle.block.specs.declared.block.Block.{Block}
-use Rattle.tree.specs.declared.node.Node.{Node}
-use Rattle.tree.specs.declared.node.Mark.{Mark}
+use Rattle.tree.specs.declared.block_index.BlockIndex.{BlockIndex}
+use Rattle.tree.specs.declared.block_index.Mark.{Mark}
 use Rattle.tree.specs.State.{State, with_mark}
 use Rattle.tree.specs.Nodes.{state_of}
 use Rattle.tree.specs.inside.Nodes.{AreRemarked, AreUsable, IsRight}
@@ -14,7 +14,7 @@ use Rattle.tree.proofs.tree.TreeMarking.mark.Goals as goal
 
 pub mark_block-requires-clause-usable : goal.mark_block-requires-clause-usable
 mark_block-requires-clause-usable c =
-    subst (λ (l : List Node). AreUsable (state_of l c.as_mut_slice.result.now []) c.as_mut_slice.result.now (length l)) (sym c.as_slice.ensures.value)
+    subst (λ (l : List BlockIndex). AreUsable (state_of l c.as_mut_slice.result.now []) c.as_mut_slice.result.now (length l)) (sym c.as_slice.ensures.value)
     (subst (λ (l : List Mark). AreUsable (state_of c.self.inside.nodes.items l []) l (length c.self.inside.nodes.items)) (sym c.as_mut_slice.ensures.value)
     (usable_before (own_marks c.self.invariant c.self.view_is) c.self.inside.nodes.items c.self.invariant.some (blocks_there c.self.invariant c.self.view_is)))
 
@@ -22,10 +22,10 @@ pub mark_block-requires-clause-kept : goal.mark_block-requires-clause-kept
 mark_block-requires-clause-kept c =
     let k = kept c.self.invariant c.self.view_is in
     let r = c.requires.kept in
-    let l = ap (λ (l : List Node). length l) c.as_slice.ensures.value in
+    let l = ap (λ (l : List BlockIndex). length l) c.as_slice.ensures.value in
     omega arith
 
-module _ {ns : List Node} {ms : List Mark} {cs : List ℕ} {is : List (Id × ℕ)} {ls : List ℕ} (right : IsRight ns ms cs is ls) {s : State Block} (view : state_of ns ms cs ≡ s) (p : ℕ) (new : List Mark)
+module _ {ns : List BlockIndex} {ms : List Mark} {cs : List ℕ} {is : List (Id × ℕ)} {ls : List ℕ} (right : IsRight ns ms cs is ls) {s : State Block} (view : state_of ns ms cs ≡ s) (p : ℕ) (new : List Mark)
     (done : AreRemarked ns ms new (λ q bad. bad || eqb q p)) where
   -- the tree is right with the marks that are left
   right_marked : 0 < p → IsRight ns new cs is ls

@@ -61,12 +61,12 @@ pub type EntryCount = Word<Entry, u64, HistoryRule>;
 
 /// A beginning of the history, which its owner has seen. A copy takes no memory, and another thread may have it.
 #[derive(Drop)]
-pub struct Note {
+pub struct SeenHistory {
     count: u64,
     seen: Seen<Entry, u64, HistoryRule>,
 }
 
-impl Model for Note {
+impl Model for SeenHistory {
     ghost use Rattle.std.specs.Prelude.{◌≡◌, length};
     ghost use Rattle.view.specs.HistoryPrefix.{Beginning};
 
@@ -77,14 +77,14 @@ impl Model for Note {
     ghost invariant = { λ n. n.count ≡ length n.seen.log };
 }
 
-impl Note {
+impl SeenHistory {
     /// A new history, with the word that counts its entries.
-    pub fn open() -> (EntryCount, Note)
+    pub fn open() -> (EntryCount, SeenHistory)
         ensures count { result.0 ≡ count_of result.1.book }
         ensures empty { result.1.entries ≡ [] }
     {
         let (seen, mut first, _second) = Seen::open(Start::alone(), 0, 0);
-        (Word::tracked(0, &mut first), Note { count: 0, seen })
+        (Word::tracked(0, &mut first), SeenHistory { count: 0, seen })
     }
 
     /// How many entries it has.
@@ -95,17 +95,17 @@ impl Note {
     }
 
     /// The same.
-    pub fn copy(&self) -> Note
+    pub fn copy(&self) -> SeenHistory
         ensures { result ≡ self.now }
     {
-        Note {
+        SeenHistory {
             count: self.count,
             seen: self.seen.again(),
         }
     }
 
     /// Whether the other, of the same history, is no shorter. The shorter of two begins the longer.
-    pub fn begins(&self, other: &Note) -> bool
+    pub fn begins(&self, other: &SeenHistory) -> bool
         requires { other.now.book ≡ self.now.book }
         ensures { let a = self.now.entries in let b = other.now.entries in
             MatchBool result (IsPrefix a b) (IsPrefix b a) }
@@ -116,7 +116,7 @@ impl Note {
     }
 
     /// Hears of another of the same history: it is the longer of both then.
-    pub fn told(&mut self, other: &Note)
+    pub fn told(&mut self, other: &SeenHistory)
         requires { other.now.book ≡ self.old.book }
         ensures one_of { (self.new ≡ self.old) ⊎ (self.new ≡ other.now) }
         ensures grows { IsPrefix self.old.entries self.new.entries }
@@ -128,7 +128,7 @@ impl Note {
     }
 
     /// Each hears of the other: both are the longer of them then.
-    pub fn meet(&mut self, other: &mut Note)
+    pub fn meet(&mut self, other: &mut SeenHistory)
         requires { other.old.book ≡ self.old.book }
         ensures same { other.new ≡ self.new }
         ensures one_of { (self.new ≡ self.old) ⊎ (self.new ≡ other.old) }
@@ -145,7 +145,8 @@ impl Note {
         requires counter { counter.now ≡ count_of self.old.book }
         ensures book { self.new.book ≡ self.old.book }
         ensures entries { let es = self.old.entries in
-            MatchBool result (self.new.entries ≡ es ++ entry.now ∷ []) (IsShorter es self.new.entries) }
+            MatchBool result (self.new.entries ≡ es ++ entry.now ∷ [])
+            (IsShorter es self.new.entries) }
     {
         let mut seen = self.seen.again();
         let mut offer: Offer<Entry, u64, HistoryRule, Nothing> = seen.plain::<

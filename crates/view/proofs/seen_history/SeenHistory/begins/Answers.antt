@@ -2,7 +2,7 @@ use Rattle.std.proofs.Common.{List, ap, subst}
 use mathlib.Core.List.{IsPrefix}
 use Rattle.model.specs.declared.entry.Entry.{Entry}
 use Rattle.view.proofs.Beginnings.{shorter_begins}
-use Rattle.view.proofs.note.Note.begins.Goals as goal
+use Rattle.view.proofs.seen_history.SeenHistory.begins.Goals as goal
 
 pub returns : goal.returns
 returns c =

@@ -5,7 +5,7 @@ use hash::Id;
 
 /// What is kept of a block and never changes (Bitcoin Core's `CBlockIndex`).
 #[derive(Debug, Drop)]
-pub(crate) struct Node {
+pub(crate) struct BlockIndex {
     pub(crate) block: StoredBlock,
     pub(crate) id: Id,
     /// The place of its parent; 0 for genesis.

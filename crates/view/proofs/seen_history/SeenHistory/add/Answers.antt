@@ -1,7 +1,7 @@
 use Rattle.std.proofs.Common.{◌≡◌, length, sym, ◌∙◌, ap}
 use Rattle.view.specs.HistoryPrefix.{Beginning, count_of}
 use Rattle.view.proofs.AddedEntry.{adds_moves}
-use Rattle.view.proofs.note.Note.add.Goals as goal
+use Rattle.view.proofs.seen_history.SeenHistory.add.Goals as goal
 
 pub compare_exchange-found-requires : goal.compare_exchange-found-requires
 compare_exchange-found-requires c =
