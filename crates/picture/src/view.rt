@@ -19,7 +19,7 @@ pub enum Part {
     All,
     /// From this one on.
     From(usize),
-    /// This many, up to that of the highest block, of whatever status.
+    /// The highest ones: this many, up to the height of the highest block, of whatever status.
     Last(usize),
 }
 

@@ -6,7 +6,7 @@ ghost use Rattle.queue.specs.inside.ClaimedPlaces.{begin_of, claims_in, wide};
 /// How many places a claim takes while many are left: each claim moves the words' cache line to another processor.
 const WIDE: usize = 8;
 
-/// So many of the last places, or some more, are claimed one by one, so that the workers end together, and as many jobs
+/// How many of the last places, or some more, are claimed one by one, so that the workers end together, and as many jobs
 /// as workers are run by one each.
 const NARROW: usize = 256;
 

@@ -117,7 +117,7 @@ pub fn slots_of<C: Places>(
     Ok(slots)
 }
 
-/// So many slots without a verdict.
+/// The count of slots, each without a verdict.
 pub(crate) fn empty_slots<C: Places>(
     alloc: Global,
     _list: &C,

@@ -22,7 +22,7 @@ use txn::Tx;
 use txn::hasher_input::{feed_count, feed_outputs};
 use wire::Memory;
 
-/// So many inputs are between one state and the next.
+/// How many inputs are between one state and the next.
 const STEP: usize = 16;
 
 /// Of a transaction with fewer inputs no state is kept.

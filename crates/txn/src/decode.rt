@@ -78,7 +78,7 @@ fn inputs(alloc: Global, bytes: &mut Cursor) -> Result<Inputs, TxFault>
     each_input(alloc, bytes, count, empty)
 }
 
-/// So many inputs, read into an empty list with room for no more than the bytes can spell.
+/// The count of inputs, read into an empty list with room for no more than the bytes can spell.
 fn each_input(
     alloc: Global,
     bytes: &mut Cursor,
@@ -105,7 +105,7 @@ fn outputs(alloc: Global, bytes: &mut Cursor) -> Result<Outputs, TxFault>
     each_output(alloc, bytes, count, empty)
 }
 
-/// So many outputs, read into an empty list with room for no more than the bytes can spell.
+/// The count of outputs, read into an empty list with room for no more than the bytes can spell.
 fn each_output(
     alloc: Global,
     bytes: &mut Cursor,

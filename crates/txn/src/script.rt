@@ -6,7 +6,7 @@ use std::alloc::{AllocError, Global};
 use std::fmt;
 use std::marker::Model;
 
-/// So many bytes stand in place (Bitcoin Core's `prevector`): a script that pays to the hash of a key has 25.
+/// How many bytes stand in place (Bitcoin Core's `prevector`): a script that pays to the hash of a key has 25.
 const IN_PLACE: usize = 28;
 
 /// A script, as its bytes. One of at most 28 takes no memory beside its own place.
