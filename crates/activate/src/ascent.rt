@@ -18,7 +18,7 @@ use connect::{BlockWithIds, Context, RunsScripts, apply_in_layer};
 use queue::Gate;
 use std::alloc::Global;
 use tree::Tree;
-use txn::{Reason, ids};
+use txn::Reason;
 use undo::BlockUndo;
 use wire::Memory;
 
@@ -174,8 +174,7 @@ fn connect_tip<'b, 'm, B: Base, S: RunsScripts>(
         mut medians,
     } = start;
     let tree = active_branch.tree;
-    let block = tree.block(place).read(alloc)?;
-    let ids = ids(alloc, block.txs.as_slice())?;
+    let (block, ids) = tree.block(place).read_with_ids(alloc)?;
     let below = medians.as_slice();
     let context = Context {
         height: height_of(tree, place),

@@ -11,7 +11,6 @@ use crate::path::ActiveBranch;
 use coins::{Base, Cache};
 use connect::disconnect_in_layer;
 use std::alloc::Global;
-use txn::ids;
 use undo::BlockUndo;
 use wire::Memory;
 
@@ -57,8 +56,7 @@ fn disconnect_tip<'b, B: Base>(
     ensures base { IfOk result (λ left. left.base ≡ layer.entry.base) }
 {
     let place = active_branch.branch[height];
-    let block = active_branch.tree.block(place).read(alloc)?;
-    let ids = ids(alloc, block.txs.as_slice())?;
+    let (block, ids) = active_branch.tree.block(place).read_with_ids(alloc)?;
     match highest_undo(active_branch, height) {
         Some(undo) => disconnect_in_layer(alloc, layer, &block, &ids, undo),
         None => {

@@ -1,6 +1,7 @@
 //! A block, kept as its bytes.
 
 ghost use Rattle.std.specs.Prelude.{◌≡◌, IfOk, MatchOption, Some, [], None};
+ghost use Rattle.txn.specs.Identity.{ids_of};
 ghost use Rattle.block.specs.BlockOfBytes.{block_of_bytes};
 ghost use Rattle.block.specs.StoredBlock.{genesis_alone};
 
@@ -14,6 +15,7 @@ use crate::txs::Txs;
 use hash::Id;
 use std::alloc::Global;
 use std::marker::Model;
+use txn::ids;
 use wire::Memory;
 
 /// A block, kept as the bytes that were submitted, and decoded where it is needed (as Bitcoin Core's
@@ -21,6 +23,8 @@ use wire::Memory;
 #[derive(Debug, Drop)]
 pub struct StoredBlock {
     time: u32,
+    /// Whether the id of its only transaction is known: its header's root.
+    has_known_id: bool,
     /// Without them it is genesis.
     bytes: Option<Bytes>,
 }
@@ -29,14 +33,17 @@ impl Model for StoredBlock {
     ghost use Rattle.block.specs.StoredBlock.{block_stored};
     ghost use Rattle.block.specs.declared.block.Block.{Block};
     ghost use Rattle.block.specs.BlockOfBytes.{block_of_bytes};
-    ghost use Rattle.std.specs.Prelude.{◌≡◌, IfSome, IsSome};
+    ghost use Rattle.std.specs.Prelude.{◌≡◌, ◌∷◌, [], true, IfSome, IsSome};
+    ghost use Rattle.txn.specs.Identity.{ids_of};
 
     ghost Value = { Block };
 
     ghost view = { λ s. block_stored s.bytes };
 
     ghost invariant = { λ s. ((block_stored s.bytes).header.time ≡ s.time)
-        × IfSome s.bytes (λ bytes. IsSome (block_of_bytes bytes)) };
+        × IfSome s.bytes (λ bytes. IsSome (block_of_bytes bytes))
+        × (s.has_known_id ≡ true →
+        ids_of (block_stored s.bytes).txs ≡ (block_stored s.bytes).header.root ∷ []) };
 }
 
 impl StoredBlock {
@@ -47,6 +54,25 @@ impl StoredBlock {
     {
         StoredBlock {
             time: block.header.time,
+            has_known_id: false,
+            bytes: Some(bytes),
+        }
+    }
+
+    /// The same, whose transactions have these ids. A block that has a coinbase alone isn't hashed again by
+    /// `read_with_ids`, since its Merkle root is that one's id.
+    pub fn with_ids(bytes: Bytes, block: &Block, ids: &[Id]) -> StoredBlock
+        requires block { block_of_bytes bytes ≡ Some block.now }
+        requires ids { ids.now ≡ ids_of block.now.txs }
+        ensures { result ≡ block.now }
+    {
+        let has_known_id = match ids {
+            [id] => *id == block.header.root,
+            _ => false,
+        };
+        StoredBlock {
+            time: block.header.time,
+            has_known_id,
             bytes: Some(bytes),
         }
     }
@@ -57,6 +83,7 @@ impl StoredBlock {
     {
         StoredBlock {
             time: GENESIS_TIME,
+            has_known_id: false,
             bytes: None,
         }
     }
@@ -71,6 +98,7 @@ impl StoredBlock {
         };
         Ok(StoredBlock {
             time: self.time,
+            has_known_id: self.has_known_id,
             bytes,
         })
     }
@@ -102,6 +130,20 @@ impl StoredBlock {
             }
         }
         Ok(genesis_without_transaction(alloc))
+    }
+
+    /// The block, decoded, and the ids of its transactions.
+    pub fn read_with_ids(&self, alloc: Global) -> Result<(Block, Vec<Id>), Memory>
+        ensures block { IfOk result (λ found. found.0 ≡ self.now) }
+        ensures ids { IfOk result (λ found. found.1.items ≡ ids_of self.now.txs) }
+    {
+        let block = self.read(alloc)?;
+        let ids = if self.has_known_id {
+            Vec::from_slice(alloc, &[block.header.root])?
+        } else {
+            ids(alloc, block.txs.as_slice())?
+        };
+        Ok((block, ids))
     }
 }
 
