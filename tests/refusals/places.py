@@ -224,6 +224,17 @@ def are_too_many(odd: Collection[Stack], every: Collection[Stack]) -> bool:
     return 50 * len(odd) > len(every)
 
 
+TRIES = 20
+
+
+def until_refused(run: Callable[[], int]) -> None:
+    """Makes runs until one refuses an allocation. A call stack that hangs on how threads meet doesn't come in each run; a
+    place that is never refused is told at the end."""
+    for _ in range(TRIES):
+        if run():
+            break
+
+
 class Places:
     """What was met, and what was refused, of a program."""
 

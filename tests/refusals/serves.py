@@ -27,6 +27,7 @@ sys.path[:0] = [f"{TESTS}/program", f"{TESTS}/serve"]
 
 import running  # noqa: E402
 import serving  # noqa: E402
+from places import until_refused  # noqa: E402
 from scenarios import SPENDS  # noqa: E402
 
 SECONDS = 20
@@ -204,7 +205,8 @@ class Sweep:
         # Threads begin in another order each time, so some more are tried than counted.
         list(pool.map(lambda at: self.once(room, at), range(self.first(room), counted + 6)))
         refused = self.places.refused()
-        list(pool.map(lambda stack: self.once(room, 0, stack), [it.hash for it in stacks if it.hash not in refused]))
+        again = [it.hash for it in stacks if it.hash not in refused]
+        list(pool.map(lambda stack: until_refused(lambda: self.once(room, 0, stack)), again))
         if not self.met["refused"]:
             self.faults.add(f"{self.kind}: nothing was refused")
         return counted
@@ -226,7 +228,7 @@ class Sweep:
         return json.dumps(answer["id"])
 
     def once(self, room, at, stack=0):
-        """A run in which the allocation of this number is refused, or the first one of a call stack."""
+        """A run in which the allocation of this number is refused, or the first one of a call stack. How many were refused."""
         folder = f"{room}/{at}-{stack}"
         ran, _, refused = self.serve(folder, self.places.shim, at, self.kind.count, REFUSE_STACK=stack)
         what = self.outcome(ran, folder)
@@ -238,6 +240,7 @@ class Sweep:
             self.met[what] += 1
             self.met["refused"] += refused
         shutil.rmtree(folder)
+        return refused
 
     def outcome(self, ran, folder):
         if ran is None:

@@ -1,6 +1,6 @@
 //! A block, kept as its bytes.
 
-ghost use Rattle.std.specs.Prelude.{◌≡◌, IfOk, MatchOption, Some, [], None};
+ghost use Rattle.std.specs.Prelude.{◌≡◌, ◌∷◌, IfOk, MatchOption, Some, [], None, true};
 ghost use Rattle.txn.specs.Identity.{ids_of};
 ghost use Rattle.block.specs.BlockOfBytes.{block_of_bytes};
 ghost use Rattle.block.specs.StoredBlock.{genesis_alone};
@@ -66,13 +66,9 @@ impl StoredBlock {
         requires ids { ids.now ≡ ids_of block.now.txs }
         ensures { result ≡ block.now }
     {
-        let has_known_id = match ids {
-            [id] => *id == block.header.root,
-            _ => false,
-        };
         StoredBlock {
             time: block.header.time,
-            has_known_id,
+            has_known_id: is_only_id(ids, &block.header.root),
             bytes: Some(bytes),
         }
     }
@@ -144,6 +140,16 @@ impl StoredBlock {
             ids(alloc, block.txs.as_slice())?
         };
         Ok((block, ids))
+    }
+}
+
+/// Whether a list of ids has this one alone.
+fn is_only_id(ids: &[Id], id: &Id) -> bool
+    ensures { result ≡ true → ids.now ≡ id.now ∷ [] }
+{
+    match ids {
+        [only] => only == id,
+        _ => false,
     }
 }
 
