@@ -9,7 +9,7 @@ the_only (x ∷ []) d lt ge = refl
 the_only (x ∷ y ∷ ids) d lt ge = absurd (omega (arith, lt))
 
 same : (a b : Id) → a.0 ≡ b.0 → a ≡ b
-same a b e = ap {A = List ℕ} {B = Id} (λ (bytes : List ℕ). record {0 = bytes}) e
+same a b e = ap {A = List ℕ} {B = Id} (λ (bytes : List ℕ). record { 0 = bytes }) e
 
 pub returns-in-len1 : goal.returns-in-len1
 returns-in-len1 c = λ is.
