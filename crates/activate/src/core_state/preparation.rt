@@ -69,8 +69,11 @@ impl Core {
             Err(reason) => Ok(still(alloc, Reply::Submit(SubmitReply::Rejected(reason)))),
             Ok(parent) => {
                 let settled = self.settle_new(alloc, base, submitted, parent, env, gate)?;
-                let bytes = submission.bytes().copy()?;
-                let block = StoredBlock::with_ids(bytes, &submitted.block, &submitted.ids);
+                let block = StoredBlock::with_ids(
+                    submission.bytes().copy()?,
+                    &submitted.block,
+                    &submitted.ids,
+                );
                 let id = submitted.id;
                 Ok(Prepared {
                     reply: Reply::Submit(settled.said),

@@ -54,7 +54,7 @@ pub apply_in_layer-requires-clause-alone : goal.apply_in_layer-requires-clause-a
 apply_in_layer-requires-clause-alone g c =
     let triples = g.S.RunsScripts.agreeing c.args.env.now in
     let agrees = g.met.S.RunsScripts.agrees c.args.env.now in
-    ap (λ (b : Block). first_broken (alone_rules b)) (c.in_ok-block.ensures ∙ c.block.ensures)
+    ap (λ (b : Block). first_broken (alone_rules b)) (c.in_ok-block.ensures.block ∙ c.block.ensures)
     ∙ alone-at (regtest c.args.active_branch.now.params.now triples) c.args.active_branch.now.tree.now.blocks c.args.place (c.requires.kept triples agrees) c.requires.place.0 c.requires.place.1
 
 pub returns-in-Err-clause-fault : goal.returns-in-Err-clause-fault
@@ -64,7 +64,7 @@ returns-in-Err-clause-fault g c triples agrees =
     let m = c.args.start.layer.coins in
     let txs = c.in_ok-block.block.txs in
     sym ((fault-found s m txs triples (Some c.in-Err.reason)).0 (err_part _ _ _ c.in-Err.is c.in_ok-done.ensures.fault triples agrees)
-    ∙ fault-next params triples c.args.active_branch.now.tree.now.blocks c.args.place c.requires.place.0 c.requires.place.1 c.height_of.result m c.in_ok-block.block c.height_of.ensures c.requires.start.left (c.in_ok-block.ensures ∙ c.block.ensures)
+    ∙ fault-next params triples c.args.active_branch.now.tree.now.blocks c.args.place c.requires.place.0 c.requires.place.1 c.height_of.result m c.in_ok-block.block c.height_of.ensures c.requires.start.left (c.in_ok-block.ensures.block ∙ c.block.ensures)
     c.as_slice-below.result.now (c.as_slice-below.ensures ∙ c.requires.start.medians_are))
 
 pub returns-clause-scripts : goal.returns-clause-scripts
@@ -82,9 +82,9 @@ returns-clause-scripts g c =
     either_way c.in-Ok.done.stop
     (λ none triples agrees.
     sym ((fault-found s m txs triples None).0 (none triples agrees)
-    ∙ fault-next params triples t p c.requires.place.0 c.requires.place.1 c.height_of.result m c.in_ok-block.block c.height_of.ensures c.requires.start.left (c.in_ok-block.ensures ∙ c.block.ensures)
+    ∙ fault-next params triples t p c.requires.place.0 c.requires.place.1 c.height_of.result m c.in_ok-block.block c.height_of.ensures c.requires.start.left (c.in_ok-block.ensures.block ∙ c.block.ensures)
     c.as_slice-below.result.now medians))
-    (λ stop are. wanted_at params (g.S.RunsScripts.known c.args.env.now) t p _ _ _ place c.requires.start.left (ap (λ (b : Block). b.txs) (c.in_ok-block.ensures ∙ c.block.ensures)) (g.S.RunsScripts.told stop) are)
+    (λ stop are. wanted_at params (g.S.RunsScripts.known c.args.env.now) t p _ _ _ place c.requires.start.left (ap (λ (b : Block). b.txs) (c.in_ok-block.ensures.block ∙ c.block.ensures)) (g.S.RunsScripts.told stop) are)
     (ok_part _ _ _ c.in-Ok.is c.in_ok-done.ensures.scripts)
 
 pub returns-clause-undo : goal.returns-clause-undo
@@ -98,7 +98,7 @@ returns-clause-undo g c =
     c.in_ok-append.ensures
     ∙ ap (λ (u : List (List Coin)). c.args.start.undo.items ++ u ∷ [])
     (connected.spent
-    ∙ undo-next params triples t c.args.place c.requires.place.0 c.requires.place.1 c.height_of.result m c.in_ok-block.block c.height_of.ensures c.requires.start.left (c.in_ok-block.ensures ∙ c.block.ensures))
+    ∙ undo-next params triples t c.args.place c.requires.place.0 c.requires.place.1 c.height_of.result m c.in_ok-block.block c.height_of.ensures c.requires.start.left (c.in_ok-block.ensures.block ∙ c.block.ensures))
 
 pub returns-clause-next : goal.returns-clause-next
 returns-clause-next g c =
@@ -112,7 +112,7 @@ returns-clause-next g c =
     let connected : IsConnected s m c.in_ok-block.block c.in-Ok.done.layer.coins c.in-Ok.done.undo = ok_part _ _ _ c.in-Ok.is c.in_ok-done.ensures.connected in
     let left : ◌≡◌ {A = Layer} c.in-Ok.done.layer (record c.args.start.layer { coins = effect h m txs }) = ok_part _ _ _ c.in-Ok.is c.in_ok-done.ensures.coins in
     record {
-      left = connected.after ∙ coins-next params triples t c.args.place c.requires.place.0 c.requires.place.1 h m c.in_ok-block.block c.height_of.ensures c.requires.start.left (c.in_ok-block.ensures ∙ c.block.ensures);
+      left = connected.after ∙ coins-next params triples t c.args.place c.requires.place.0 c.requires.place.1 h m c.in_ok-block.block c.height_of.ensures c.requires.start.left (c.in_ok-block.ensures.block ∙ c.block.ensures);
       base_is = ap (λ (l : Layer). l.base) left;
       medians_are =
           c.in_ok-push.ensures

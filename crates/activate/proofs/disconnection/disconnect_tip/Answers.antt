@@ -41,21 +41,21 @@ pub disconnect_in_layer-requires-clause-connected : goal.disconnect_in_layer-req
 disconnect_in_layer-requires-clause-connected g c =
     let t = c.args.active_branch.now.tree.now.blocks in
     let places = c.args.active_branch.now.branch.now in
-    let one = next_back t places c.requires.branch.branch c.args.height c.requires.above c.requires.inside c.args.layer.coins c.in_ok-block.block c.in-Some.undo.now c.requires.coins (c.in_ok-block.ensures ∙ c.block.ensures) c.in-Some.ensures in
+    let one = next_back t places c.requires.branch.branch c.args.height c.requires.above c.requires.inside c.args.layer.coins c.in_ok-block.block c.in-Some.undo.now c.requires.coins (c.in_ok-block.ensures.block ∙ c.block.ensures) c.in-Some.ensures in
     (one.0, coins_after t (place_at places (c.args.height - 1)), one.1)
 
 pub returns-in-Some-clause-coins : goal.returns-in-Some-clause-coins
 returns-in-Some-clause-coins g c =
     let t = c.args.active_branch.now.tree.now.blocks in
     let places = c.args.active_branch.now.branch.now in
-    let one = next_back t places c.requires.branch.branch c.args.height c.requires.above c.requires.inside c.args.layer.coins c.in_ok-block.block c.in-Some.undo.now c.requires.coins (c.in_ok-block.ensures ∙ c.block.ensures) c.in-Some.ensures in
+    let one = next_back t places c.requires.branch.branch c.args.height c.requires.above c.requires.inside c.args.layer.coins c.in_ok-block.block c.in-Some.undo.now c.requires.coins (c.in_ok-block.ensures.block ∙ c.block.ensures) c.in-Some.ensures in
     if_ok c.disconnect_in_layer.result (c.disconnect_in_layer.ensures one.0 (coins_after t (place_at places (c.args.height - 1))) one.1) (λ left e. ap (λ (l : Layer). l.coins) e)
 
 pub returns-in-Some-clause-base : goal.returns-in-Some-clause-base
 returns-in-Some-clause-base g c =
     let t = c.args.active_branch.now.tree.now.blocks in
     let places = c.args.active_branch.now.branch.now in
-    let one = next_back t places c.requires.branch.branch c.args.height c.requires.above c.requires.inside c.args.layer.coins c.in_ok-block.block c.in-Some.undo.now c.requires.coins (c.in_ok-block.ensures ∙ c.block.ensures) c.in-Some.ensures in
+    let one = next_back t places c.requires.branch.branch c.args.height c.requires.above c.requires.inside c.args.layer.coins c.in_ok-block.block c.in-Some.undo.now c.requires.coins (c.in_ok-block.ensures.block ∙ c.block.ensures) c.in-Some.ensures in
     if_ok c.disconnect_in_layer.result (c.disconnect_in_layer.ensures one.0 (coins_after t (place_at places (c.args.height - 1))) one.1) (λ left e. ap (λ (l : Layer). l.base) e)
 
 pub disconnect_in_layer-requires-in-None-clause-connected : goal.disconnect_in_layer-requires-in-None-clause-connected
@@ -63,5 +63,5 @@ disconnect_in_layer-requires-in-None-clause-connected g c =
     let t = c.args.active_branch.now.tree.now.blocks in
     let places = c.args.active_branch.now.branch.now in
     let spent = packed_there t places _ _ c.requires.branch c.args.height c.requires.above c.requires.inside c.in_ok-undo-in-None.undo _ c.in_ok-undo-in-None.ensures in
-    let one = next_back t places c.requires.branch.branch c.args.height c.requires.above c.requires.inside c.args.layer.coins c.in_ok-block.block c.in_ok-undo-in-None.undo c.requires.coins (c.in_ok-block.ensures ∙ c.block.ensures) spent in
+    let one = next_back t places c.requires.branch.branch c.args.height c.requires.above c.requires.inside c.args.layer.coins c.in_ok-block.block c.in_ok-undo-in-None.undo c.requires.coins (c.in_ok-block.ensures.block ∙ c.block.ensures) spent in
     (one.0, coins_after t (place_at places (c.args.height - 1)), one.1)

@@ -114,8 +114,8 @@ returns-in_ok-copy-in-Ok-clause-prepared g c triples agrees =
     let s = c.in_ok-settled-in-Ok.settled in
     let is = new_there c.self.view_is b (held c.in-Submit.submission _ _ c.block.ensures (ap option_copied c.in-Some.is)).1.id c.find.ensures c.in_default-find.is c.len.ensures.count (let t = c.if-len-ge-MAX_BLOCKS.false in omega arith)
     triples c.in-Submit.now c.in-Ok.parent (c.in-Ok.ensures.fault triples) c.in-Ok.ensures.parent in
-    let block_is = c.of-block.ensures in
-    let new : NewBlock = record { block = c.of-block.result; id = c.in-Some.submitted.now.id; parent = c.in-Ok.parent } in
+    let block_is = c.with_ids-block.ensures in
+    let new : NewBlock = record { block = c.with_ids-block.result; id = c.in-Some.submitted.now.id; parent = c.in-Ok.parent } in
     let prepared : Prepared = record { reply = reply.Submit s.said; edit = Keep new; rest = s.rest; changes = s.changes } in
     rw c.in-Submit.is (subst (λ o. IsPreparationFor (regtest a.params triples) a o prepared) (submitted (regtest a.params triples) a.state c.in-Submit.submission c.in-Submit.now b (held c.in-Submit.submission _ _ c.block.ensures (ap option_copied c.in-Some.is)).0)
     (plan_new triples a (c.requires.follows triples agrees) c.in-Submit.now b c.in-Ok.parent is s (c.in_ok-settled-in-Ok.ensures.settled triples agrees) new
