@@ -229,7 +229,7 @@ TRIES = 20
 
 def until_refused(run: Callable[[], int]) -> None:
     """Makes runs until one refuses an allocation. A call stack that hangs on how threads meet doesn't come in each run; a
-    place that is never refused is told at the end."""
+    place that is never refused is reported at the end."""
     for _ in range(TRIES):
         if run():
             break
