@@ -58,13 +58,22 @@ class Needs(unittest.TestCase):
         self.assertEqual(status, 1)
         self.assertIn("rattle-kit-99", told)
 
-    def test_the_kit_of_the_program_and_of_the_readme(self) -> None:
-        with open(f"{ROOT}/tools/needs", encoding="utf-8") as file:
-            logic = re.search(r"LOGIC=(\w+)", file.read())
-        assert logic is not None
-        for path in ("README.md", "crates/console/src/options.rt"):
-            with open(f"{ROOT}/{path}", encoding="utf-8") as file:
-                self.assertIn(logic[1], file.read())
+    def test_one_version_and_one_kit(self) -> None:
+        """`tools/version.py` passes, and finds another version or kit at each place."""
+        told = re.compile(r"0\.2|rattle-kit-13f|dac8208d650f15bf|(?<=MAJOR )0|(?<=MINOR )2")
+        with tempfile.TemporaryDirectory() as room:
+            subprocess.run(["git", "-C", ROOT, "checkout-index", "-a", f"--prefix={room}/"], check=True)
+            see = [f"{room}/tools/version.py"]
+            self.assertEqual(subprocess.run(see).returncode, 0)
+            for path in ("crates/console/src/options.rt", "crates/gated/stdout", "ffi/include/wakotehu.h", "README.md", "VERSION"):
+                with open(f"{room}/{path}", encoding="utf-8") as file:
+                    text = file.read()
+                with open(f"{room}/{path}", "w", encoding="utf-8") as file:
+                    file.write(told.sub("0.9", text))
+                done = subprocess.run(see, stderr=subprocess.PIPE, text=True)
+                self.assertEqual((done.returncode, path in done.stderr), (1, True), path)
+                with open(f"{room}/{path}", "w", encoding="utf-8") as file:
+                    file.write(text)
 
 
 class Children(unittest.TestCase):

@@ -6,6 +6,7 @@ import subprocess
 import sys
 import tempfile
 import unittest
+import zipfile
 
 ROOT = os.path.dirname(os.path.dirname(os.path.dirname(os.path.realpath(__file__))))
 sys.path.insert(0, f"{ROOT}/tools")
@@ -17,7 +18,22 @@ class Unproved(unittest.TestCase):
         with tempfile.TemporaryDirectory() as room:
             copy = unproved.marked(ROOT, room)
             with open(f"{copy}/crates/console/src/options.rt", encoding="utf-8") as file:
-                self.assertRegex(file.read(), r'pub const VERSION: &str = "\d+\.\d+\.\d+ unproved \(')
+                self.assertRegex(file.read(), r'pub const VERSION: &str = "\d+\.\d+ unproved \(')
+
+    def test_the_wheel_says_so(self) -> None:
+        with tempfile.TemporaryDirectory() as room:
+            for name in ("libwakotehu.so.0", "regchain"):
+                with open(f"{room}/{name}", "w", encoding="ascii"):
+                    os.chmod(f"{room}/{name}", 0o755)
+            environment = {**os.environ, "LIBRARIES": room, "WAKOTEHU_PROGRAM": f"{room}/regchain", "PYTHON": "/usr/bin/python3"}
+            subprocess.run([f"{ROOT}/ffi/python/build", "--unproved", f"{room}/wheel"], env=environment, check=True)
+            (wheel,) = os.listdir(f"{room}/wheel")
+            with zipfile.ZipFile(f"{room}/wheel/{wheel}") as file:
+                (metadata,) = (name for name in file.namelist() if name.endswith(".dist-info/METADATA"))
+                text = file.read(metadata).decode()
+        self.assertIn("+unproved", wheel)
+        self.assertRegex(text, r"(?m)^Summary: A chainstate, compiled without its proofs,")
+        self.assertNotIn("A proved chainstate", text)
 
     def test_each_export_is_kept(self) -> None:
         called = unproved.calling_all(f"{ROOT}/crates/ffi/src")

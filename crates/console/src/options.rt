@@ -24,7 +24,7 @@ pub const NAME: &str = "regchain";
 pub const STANDARD: &str = "-";
 
 /// The program's version, with the kit and its logic by which it is proved.
-pub const VERSION: &str = "0.1.0 (rattle-kit-13 logic dac8208d650f15bf)";
+pub const VERSION: &str = "0.2 (rattle-kit-13f logic dac8208d650f15bf)";
 
 /// How many workers check scripts by default.
 const WORKERS: usize = 2;
