@@ -1,3 +1,4 @@
+pub mod Checkpoints
 pub mod Confirmations
 pub mod Histories
 pub mod laws

@@ -4,3 +4,4 @@ pub mod Confirmations
 pub mod Heights
 pub mod Replies
 pub mod Verdicts
+pub mod Checkpoints

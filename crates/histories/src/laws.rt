@@ -1,6 +1,6 @@
 //! What holds of whole histories.
 
-ghost use Rattle.std.specs.Prelude.{◌≡◌, ◌≢◌, ◌≤◌, ℕ, pos, ◌≤ℤ◌, true, List, length, None, Option};
+ghost use Rattle.std.specs.Prelude.{◌≡◌, ◌≢◌, ◌≤◌, ◌+◌, ◌++◌, ◌↔◌, ℕ, pos, ◌≤ℤ◌, true, List, length, None, Option};
 ghost use Rattle.std.specs.FinMap as coin_map;
 ghost use mathlib.Core.List.{IsPrefix};
 ghost use Rattle.logbook.specs.Pages.{Book};
@@ -9,7 +9,7 @@ ghost use Rattle.block.specs.declared.block.Block.{Block};
 ghost use Rattle.txn.specs.declared.outpoint.OutPoint.{OutPoint};
 ghost use Rattle.coins.specs.declared.coin.Coin.{Coin};
 ghost use Rattle.coins.specs.Coins.{total};
-ghost use Rattle.signatures.specs.Known.{Agrees};
+ghost use Rattle.signatures.specs.Known.{Agrees, Known, Under};
 ghost use Rattle.signatures.specs.Triple.{Triples};
 ghost use Rattle.rules.specs.declared.params.Params.{Params};
 ghost use Rattle.model.specs.declared.command.Command.TheVariants as command;
@@ -17,13 +17,15 @@ ghost use Rattle.model.specs.declared.entry.Entry.{Entry};
 ghost use Rattle.model.specs.Chainstate.{chainstate};
 ghost use Rattle.tree.specs.Branches.{Blocks, height, on};
 ghost use Rattle.model.specs.History.{Legal, state_after_entries, state_at, state_left};
-ghost use Rattle.model.specs.Learnt.{found_in, known_after};
+ghost use Rattle.model.specs.Learnt.{found_in, found_from, known_after};
 ghost use Rattle.model.specs.Regtest.{ledger, regtest};
 ghost use Rattle.model.specs.Replay.{coins, coins_at};
 ghost use Rattle.model.specs.Settle.{active};
 ghost use Rattle.model.specs.Total.{subsidies};
-ghost use Rattle.view.specs.Origin.{known_in, origin_by_need, origin_of};
-ghost use Rattle.view.specs.ViewState.{IsLegal};
+ghost use Rattle.view.specs.Origin.{Origin, known_in, machine, origin_by_need, origin_of};
+ghost use Rattle.view.specs.ViewState.{IsLegal, state_after};
+ghost use Rattle.histories.specs.Checkpoints.{Checkpoint, IsCheckpointOf, IsLegalFrom, IsReached};
+ghost use Rattle.histories.specs.Checkpoints.{genesis, known_from};
 ghost use Rattle.histories.specs.Confirmations.{IsCoinOf, IsUnspentAbove};
 ghost use Rattle.histories.specs.Histories.{AreAnswered, commands_of, replies_of, without_verdicts};
 
@@ -98,4 +100,44 @@ pub fn a_coin_is_gone_only_if_it_is_spent_or_its_block_is_taken_back()
         IsCoinOf r t active made outpoint coin → other ≤ length t → on t other made ≡ true
         → IsUnspentAbove t other made outpoint
         → coin_map.get (coins_at r ledger t other) outpoint ≢ None }
+{}
+
+/// **Opening from a checkpoint and the entries behind it is opening from the whole history**: a history that goes on from a
+/// legal one is legal exactly if its tail is legal from the checkpoint, and after both the same is known of signatures, the
+/// state is the same, and stamps are the tail's places behind those that came before.
+pub fn a_checkpoint_stands_for_its_history()
+    ensures legal { (o : Origin) (xs ys : List Entry) (c : Checkpoint)
+        → IsLegal o xs → IsCheckpointOf o xs c
+        → IsLegal o (xs ++ ys) ↔ IsLegalFrom o c ys }
+    ensures known { (o : Origin) (xs ys : List Entry) (c : Checkpoint)
+        → IsLegal o xs → IsCheckpointOf o xs c
+        → known_in o (xs ++ ys) ≡ known_from o c ys }
+    ensures state { (o : Origin) (xs ys : List Entry) (c : Checkpoint)
+        → IsLegal o xs → IsCheckpointOf o xs c → IsLegalFrom o c ys
+        → Under (known_from o c ys) (λ valid.
+        state_after o valid (xs ++ ys) ≡ state_after_entries (machine o valid) c.state ys) }
+    ensures stamps { (o : Origin) (xs ys : List Entry) (c : Checkpoint)
+        → IsCheckpointOf o xs c → length (xs ++ ys) ≡ c.count + length ys }
+{}
+
+/// So a checkpoint may be made from the one before it and the tail alone, and stands for the whole history again.
+pub fn a_checkpoint_is_made_from_the_last_one()
+    ensures { (o : Origin) (xs ys : List Entry) (c next : Checkpoint)
+        → IsLegal o xs → IsCheckpointOf o xs c → IsLegalFrom o c ys
+        → next.count ≡ c.count + length ys
+        → Under (known_from o c ys) (λ valid.
+        state_after_entries (machine o valid) c.state ys ≡ next.state)
+        → found_from c.found ys ≡ next.found
+        → IsCheckpointOf o (xs ++ ys) next }
+{}
+
+/// **What is legal from a checkpoint that was reached is the end of a history that is legal from genesis**, with the same
+/// state and stamps; and genesis is reached.
+pub fn what_goes_on_from_a_checkpoint_is_a_history()
+    ensures begins { (o : Origin) → IsReached o genesis }
+    ensures goes_on { (o : Origin) (c : Checkpoint) (ys : List Entry)
+        → IsReached o c → IsLegalFrom o c ys
+        → (xs : List Entry) × IsLegal o (xs ++ ys) × (length (xs ++ ys) ≡ c.count + length ys)
+        × Under (known_from o c ys) (λ valid.
+        state_after o valid (xs ++ ys) ≡ state_after_entries (machine o valid) c.state ys) }
 {}
