@@ -55,10 +55,15 @@ class ByNeed(ProgramTest):
             result = served.ask(method, seat=seat, **params)
             lines = wants(result["answer"])
             if lines is None:
+                self.assertEqual(served.ask("wants", seat=seat)["answer"], {"wants": []})
                 return result, told
             self.assertEqual(served.ask("wants", seat=seat), result)
+            # A read leaves them, and a verdict doesn't.
+            served.ask("getbestblockhash", seat=seat)
+            self.assertEqual(served.ask("wants", seat=seat)["answer"], {"wants": lines})
             self.assertEqual(len(set(lines)), len(lines))
             told += self.learn(served, seat, lines, table) - result["at"]
+            self.assertEqual(served.ask("wants", seat=seat)["answer"], {"wants": []})
             self.assertEqual(told > 0, True)
 
     def play_scenario(self, scenario: Scenario, seats: int) -> int:

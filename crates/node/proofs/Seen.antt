@@ -15,19 +15,20 @@ use Rattle.node.specs.Pass.{Pass, IsRead, AreCoins}
 use Rattle.node.specs.Told.{AreNext, coins_in}
 
 -- what the state gives after entries that are all that the seat has then seen is read there
-pub read_after : {V : Type 0} (value : Origin → Triples → State Block → V) (p q : Pass) (at : ℕ) (o : Origin) (es : List Entry) (answer : V) → o ≡ p.origin → es ≡ q.seen → at ≡ length q.seen → q.mine ≡ p.mine
+pub read_after : {V : Type 0} (value : Origin → Triples → State Block → V) (p q : Pass) (at : ℕ) (o : Origin) (es : List Entry) (answer : V) → o ≡ p.origin → es ≡ q.seen → at ≡ length q.seen → q.mine ≡ p.mine → q.wants ≡ p.wants
     → Under (known_in o es) (λ valid. answer ≡ value o valid (state_after o valid es)) → IsRead p q (value p.origin) at answer
-read_after value p q at o es answer origin seen at_is mine said = record {
+read_after value p q at o es answer origin seen at_is mine wants said = record {
   at_is = at_is;
   value_is = λ valid agrees.
       said valid (subst (λ (x : Origin). Agrees (known_in x es) valid) (sym origin) (subst (λ (l : List Entry). Agrees (known_in p.origin l) valid) (sym seen) agrees))
       ∙ (λ i. value (origin i) valid (state_after (origin i) valid (seen i)))
       ∙ ap (λ (l : List Entry). value p.origin valid (state_after p.origin valid l)) (sym (take_all at q.seen (omega (arith, at_is))));
   mine_is = mine;
+  wants_is = wants;
 }
 
 -- what is read of a view that has all that the seat has then seen
-module _ (p q : Pass) (x : ViewState) (at : ℕ) (origin : x.origin ≡ p.origin) (journal : x.journal ≡ q.seen) (at_is : at ≡ length q.seen) (mine : q.mine ≡ p.mine) where
+module _ (p q : Pass) (x : ViewState) (at : ℕ) (origin : x.origin ≡ p.origin) (journal : x.journal ≡ q.seen) (at_is : at ≡ length q.seen) (mine : q.mine ≡ p.mine) (wants : q.wants ≡ p.wants) where
   there : (valid : Triples) → Agrees (known_in p.origin q.seen) valid → Agrees (known_in x.origin x.journal) valid
   there valid agrees = subst (λ (o : Origin). Agrees (known_in o x.journal) valid) (sym origin) (subst (λ (es : List Entry). Agrees (known_in p.origin es) valid) (sym journal) agrees)
 
@@ -36,7 +37,7 @@ module _ (p q : Pass) (x : ViewState) (at : ℕ) (origin : x.origin ≡ p.origin
 
   pub read_there : {V : Type 0} (value : Origin → Triples → State Block → V) (answer : V) → Under (known_in x.origin x.journal) (λ valid. answer ≡ value x.origin valid (state_after x.origin valid x.journal))
       → IsRead p q (value p.origin) at answer
-  read_there value answer told = read_after value p q at x.origin x.journal answer origin journal at_is mine told
+  read_there value answer told = read_after value p q at x.origin x.journal answer origin journal at_is mine wants told
 
   pub coins_there : (above : Option OutPoint) (most : ℕ) (list : List (OutPoint × Coin)) → Under (known_in x.origin x.journal) (λ valid. AreNext (coins_in x.origin valid (state_after x.origin valid x.journal)) above most list)
       → AreCoins p q above most at list
@@ -47,4 +48,5 @@ module _ (p q : Pass) (x : ViewState) (at : ℕ) (origin : x.origin ≡ p.origin
         ((λ i. coins_in (origin i) valid (state_after (origin i) valid (journal i))) ∙ ap (λ (es : List Entry). coins_in p.origin valid (state_after p.origin valid es)) (sym whole))
         (told valid (there valid agrees));
     mine_is = mine;
+    wants_is = wants;
   }

@@ -40,16 +40,17 @@ pub record AreWanted (o : Origin) (es : List Entry) (c : Command) (list : List T
   pub core_is : Under (known_in o es) (λ valid. IsCoreWith o valid es core)
   pub wanted : AreWantedByStep core c (known_in o es) list
 
--- this verdict on the triple is known after all that the seat has then seen
+-- this verdict on the triple is known after all that the seat has then seen, and it wants nothing
 pub record IsVerdict (p q : Pass) (t : Triple) (valid : Bool) (at : ℕ) : Type 0 where
   pub at_is : at ≡ length q.seen
   pub known_is : known_in p.origin q.seen t ≡ Some valid
   pub mine_is : q.mine ≡ p.mine
+  pub wants_is : q.wants ≡ []
 
 -- what the seat has seen stays, but where signatures are wanted; only an owed step is the seat's
 abbrev pub IsWriteFault : Pass → Pass → Command → Fault → Type 0
 IsWriteFault p q c Memory = q ≡ p
-IsWriteFault p q c Owed = (q.seen ≡ p.seen) × (q.mine ≡ p.mine ++ owed_entry p.number c ∷ [])
+IsWriteFault p q c Owed = (q.seen ≡ p.seen) × (q.mine ≡ p.mine ++ owed_entry p.number c ∷ []) × (q.wants ≡ [])
 IsWriteFault p q c Closed = q ≡ p
 IsWriteFault p q c Unknown = (q.mine ≡ p.mine) × AreWanted p.origin q.seen c q.wants
 

@@ -15,7 +15,7 @@ use Rattle.view.specs.ViewState.{IsLegal}
 use Rattle.node.specs.Told.{AreNext, coins_in}
 
 -- the seat's number, which history it sits at and what that is of, the beginning of it that the seat has seen, the seat's
--- own entries in order, and the signatures that its last call without an answer wants
+-- own entries in order, and the signatures that its last call wants, of those that may want some
 pub record Pass : Type 0 where
   pub number : ℕ
   pub origin : Origin
@@ -31,6 +31,10 @@ pub record Heard : Type 0 where
 -- a seat that has seen and done nothing
 abbrev pub opening_pass : Origin → ℕ → Pass
 opening_pass o number = record { number = number; origin = o; seen = []; mine = []; wants = [] }
+
+-- the same, where nothing is wanted any more
+abbrev pub settled : Pass → Pass
+settled p = record p { wants = [] }
 
 -- so many seats, numbered from 0
 abbrev pub opening_passes : Origin → ℕ → List Pass
@@ -66,17 +70,18 @@ up_to_last_answered (e ∷ es) = if all_owed (e ∷ es) then [] else e ∷ up_to
 abbrev pub IsOwn : Pass → Type 0
 IsOwn p = IsPrefix (up_to_last_answered p.mine) (own_of p.number p.seen)
 
--- the step is the last that the seat has then seen, with this reply, and the seat's entries are its own
+-- the step is the last that the seat has then seen, with this reply, and the seat's entries are its own; it wants nothing
 pub record IsWrite (p q : Pass) (command : Command) (at : ℕ) (reply : Reply) : Type 0 where
   pub last : let e = entry_of p.number command (Some reply) in
       (before : List Entry) × (q.seen ≡ before ++ e ∷ []) × IsPrefix p.seen before
   pub at_is : at ≡ length q.seen
   pub mine_is : q.mine ≡ p.mine ++ entry_of p.number command (Some reply) ∷ []
   pub own_is : own_of q.number q.seen ≡ q.mine
+  pub wants_is : q.wants ≡ []
 
--- no step was taken
+-- no step was taken, and nothing is wanted
 pub record IsNoStep (p q : Pass) (at : ℕ) : Type 0 where
-  pub same : q ≡ p
+  pub same : q ≡ settled p
   pub at_is : at ≡ length p.seen
 
 -- the value is what the history's state gives after all that the seat has then seen, under every set of valid signatures
@@ -86,12 +91,14 @@ pub record IsRead (p q : Pass) {V : Type 0} (value : (valid : Triples) → (mach
   pub at_is : at ≡ length q.seen
   pub value_is : Under (known_in p.origin q.seen) (λ valid. answer ≡ value valid (state_at (machine p.origin valid) q.seen at))
   pub mine_is : q.mine ≡ p.mine
+  pub wants_is : q.wants ≡ p.wants
 
 -- the answer is the entries after the first `first`, up to the one of number `last`, of all that the seat has then seen
 pub record IsListed (p q : Pass) (first last at : ℕ) (answer : List Entry) : Type 0 where
   pub at_is : at ≡ length q.seen
   pub answer_is : answer ≡ drop first (take last q.seen)
   pub mine_is : q.mine ≡ p.mine
+  pub wants_is : q.wants ≡ p.wants
 
 -- the answer is the coins above an outpoint, of the state after all that the seat has then seen
 pub record AreCoins (p q : Pass) (above : Option OutPoint) (most at : ℕ) (answer : List (OutPoint × Coin)) : Type 0 where
@@ -99,6 +106,7 @@ pub record AreCoins (p q : Pass) (above : Option OutPoint) (most at : ℕ) (answ
   pub answer_is : Under (known_in p.origin q.seen) (λ valid.
       AreNext (coins_in p.origin valid (state_at (machine p.origin valid) q.seen at)) above most answer)
   pub mine_is : q.mine ≡ p.mine
+  pub wants_is : q.wants ≡ p.wants
 
 -- of a whole history: what the seat has seen begins it, and the seat's entries in it are its own
 pub record IsStanding (history : List Entry) (p : Pass) : Type 0 where

@@ -26,7 +26,7 @@ use Rattle.node.specs.declared.answer.Stamped.{Stamped}
 use Rattle.node.specs.declared.answer.UnspentOutput.{UnspentOutput}
 use Rattle.node.specs.declared.fault.Fault.{Fault}
 use Rattle.node.specs.declared.fault.Fault.TheVariants.{Owed, Unknown}
-use Rattle.node.specs.Pass.{Pass, Heard, IsLater, IsLonger, IsWrite, IsRead, AreCoins, IsListed, owed_entry}
+use Rattle.node.specs.Pass.{Pass, Heard, settled, IsLater, IsLonger, IsWrite, IsRead, AreCoins, IsListed, owed_entry}
 use Rattle.node.specs.Calls.{IsSubmitAnswer, IsLearnAnswer, IsWriteFault, IsJudgeFault, IsReadFault, IsClosedFault}
 use Rattle.node.specs.Told.{AreNext, best_in, coins_in, output_at, reply_to, shown_tips, undo_in}
 
@@ -64,7 +64,7 @@ abbrev pub Ensures : Pass → Pass → Call → Type 0
 Ensures p q (Submit bytes now r) = Contract p q r (IsSubmitAnswer p q bytes now) (IsWriteFault p q (command.Submit bytes now))
 Ensures p q (Mark c r) = Contract p q r (λ at value. IsWrite p q c at (reply.Mark value)) (IsWriteFault p q c)
 Ensures p q (Learn t valid r) = Contract p q r (IsLearnAnswer p q t valid) (IsWriteFault p q (command.Learn t valid))
-Ensures p q (Judge bytes now r) = let c = command.Submit bytes now in Contract p q r (λ at value. IsRead p q (reply_to p.origin c) at (reply.Submit value)) (IsJudgeFault p q c)
+Ensures p q (Judge bytes now r) = let c = command.Submit bytes now in Contract p q r (λ at value. IsRead (settled p) q (reply_to p.origin c) at (reply.Submit value)) (IsJudgeFault p q c)
 Ensures p q (Spent id r) = Contract p q r (IsRead p q (undo_in p.origin id)) (IsReadFault p q)
 Ensures p q (GetTxOut outpoint r) = Contract p q r (IsRead p q (output_at p.origin outpoint)) (IsReadFault p q)
 Ensures p q (CoinsFrom above most r) = Contract p q r (λ at list. AreCoins p q above most at list.items) (IsReadFault p q)

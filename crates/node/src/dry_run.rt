@@ -25,7 +25,7 @@ use std::thread::Threads;
 use view::Naming;
 
 impl<'t, J: Naming> Seat<'t, J> {
-    ghost use Rattle.node.specs.Pass.{IsLater, IsOwn, IsRead};
+    ghost use Rattle.node.specs.Pass.{IsLater, IsOwn, IsRead, settled};
 
     /// The reply that [`submit`](Seat::submit) would give now, after all that the seat has then seen (Bitcoin Core's
     /// `getblocktemplate` in mode `proposal`, for every block). No step is taken: the block isn't kept.
@@ -41,7 +41,7 @@ impl<'t, J: Naming> Seat<'t, J> {
     ) -> Result<Stamped<SubmitReply>, Fault>
         ensures later { IsLater self.old self.new }
         ensures answer { let told = reply_to self.old.origin (command.Submit bytes.now now) in
-            IfOk result (λ r. IsRead self.old self.new told r.at (reply.Submit r.value)) }
+            IfOk result (λ r. IsRead (settled self.old) self.new told r.at (reply.Submit r.value)) }
         ensures own { IsOwn self.new }
         ensures fault { let asked = command.Submit bytes.now now in
             IfErr result (IsJudgeFault self.old self.new asked) }
@@ -64,7 +64,7 @@ impl<'t, J: Naming> Seat<'t, J> {
         requires submits { IsSubmission (command_of command.now) }
         ensures later { IsLater self.old self.new }
         ensures answer { let told = reply_to self.old.origin (command_of command.now) in
-            IfOk result (λ r. IsRead self.old self.new told r.at (reply.Submit r.value)) }
+            IfOk result (λ r. IsRead (settled self.old) self.new told r.at (reply.Submit r.value)) }
         ensures own { IsOwn self.new }
         ensures fault { let asked = command_of command.now in
             IfErr result (IsJudgeFault self.old self.new asked) }
@@ -100,7 +100,7 @@ impl<'t, J: Naming> Seat<'t, J> {
         requires submits { IsSubmission (command_of command.now) }
         ensures later { IsLater self.old self.new }
         ensures answer { let told = reply_to self.old.origin (command_of command.now) in
-            IfOk result (λ r. IsRead self.old self.new told r.at (reply.Submit r.value)) }
+            IfOk result (λ r. IsRead (settled self.old) self.new told r.at (reply.Submit r.value)) }
         ensures own { IsOwn self.new }
         ensures fault { let asked = command_of command.now in
             IfErr result (IsJudgeFault self.old self.new asked) }
@@ -118,6 +118,7 @@ impl<'t, J: Naming> Seat<'t, J> {
         match history.judge(command, &crews, node.gate) {
             Ok(Reply::Submit(value)) => {
                 let at = self.see_all(history)?;
+                self.wants.clear();
                 Ok(Stamped { at, value })
             }
             Ok(Reply::Mark(_)) => unreachable!(),

@@ -31,7 +31,8 @@ pub struct Seat<'t, J: Naming> {
     pub(crate) answered: u64,
     /// The commands of its own steps since then, whose replies are owed.
     pub(crate) owed: Vec<Command>,
-    /// The signatures that its last call wants which was answered [`Fault::Unknown`](crate::Fault::Unknown).
+    /// The signatures that its last write or dry run wants: none but where that was answered
+    /// [`Fault::Unknown`](crate::Fault::Unknown).
     pub(crate) wants: Vec<KeptTriple>,
     /// What was made of the bytes of its last submission, if that wanted signatures.
     pub(crate) submission: Option<Submission>,
@@ -75,8 +76,9 @@ impl<'t, J: Naming> Seat<'t, J> {
     ghost use Rattle.node.specs.Pass.{IsLater, IsLonger, IsOwn, IsStanding, opening_pass};
     ghost use Rattle.node.specs.inside.Seats.{IsAt};
 
-    /// The signatures that scripts want which its last call ran that was answered [`Fault::Unknown`](crate::Fault::Unknown):
-    /// whoever tells the seat, by [`learn`](Seat::learn), which of them are valid, may make that call again.
+    /// The unknown signatures for which the seat's last write or dry run took no step
+    /// ([`Fault::Unknown`](crate::Fault::Unknown)): none where it was answered or owed, nor after [`learn`](Seat::learn).
+    /// Reads leave them.
     pub fn wants(&self) -> &[KeptTriple]
         ensures { result.now ≡ self.now.wants }
     {
@@ -101,6 +103,7 @@ impl<'t, J: Naming> Seat<'t, J> {
     pub fn told(&mut self, note: &Note<J>)
         ensures later { IsLater self.old self.new }
         ensures mine { self.new.mine ≡ self.old.mine }
+        ensures wants { self.new.wants ≡ self.old.wants }
         ensures longer { IsLonger self.old.seen note.now.seen self.new.seen }
         ensures own { IsOwn self.new }
     {
@@ -156,7 +159,7 @@ impl<'t, J: Naming> Seat<'t, J> {
         requires grows { IsPrefix self.old.seen found.entries }
         requires legal { IsLegal J.origin found.entries }
         ensures later { IsLater self.old self.new }
-        ensures mine { self.new.mine ≡ self.old.mine }
+        ensures kept { (self.new.mine ≡ self.old.mine) × (self.new.wants ≡ self.old.wants) }
         ensures seen { self.new.seen ≡ found.entries }
         ensures at { result ≡ length found.entries }
         ensures own { IsOwn self.new }

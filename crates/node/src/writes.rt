@@ -360,6 +360,7 @@ impl<'t, J: Naming> Seat<'t, J> {
         }
         if let Some(known) = history.find(triple) {
             let at = self.see_all(history)?;
+            self.wants.clear();
             let value = if known == valid {
                 Learning::Known
             } else {
@@ -381,6 +382,7 @@ impl<'t, J: Naming> Seat<'t, J> {
         requires shown { history.now.owed ≡ false }
         ensures later { IsLater self.old self.new }
         ensures mine { self.new.mine ≡ self.old.mine }
+        ensures wants { self.new.wants ≡ self.old.wants }
         ensures own { IsOwn self.new }
         ensures seen { IfOk result (λ at.
             (self.new.seen ≡ history.now.journal) × (at ≡ length self.new.seen)) }
@@ -493,6 +495,7 @@ impl<'t, J: Naming> Seat<'t, J> {
     {
         let asked = ready_command(rt, history, &mut self.owed, command)?;
         if is_undecodable(command) {
+            self.wants.clear();
             let value = Reply::Submit(SubmitReply::DecodeFailed);
             return Ok(Stamped {
                 at: self.seen.len(),
@@ -514,10 +517,12 @@ impl<'t, J: Naming> Seat<'t, J> {
                 let at = self.seen.len();
                 self.answered = at;
                 self.owed.clear();
+                self.wants.clear();
                 Ok(Stamped { at, value: reply })
             }
             Ok(None) => {
                 self.owed.push_reserved(asked);
+                self.wants.clear();
                 Err(Fault::Owed)
             }
             Err(Refusal::Memory) => Err(Fault::Memory),

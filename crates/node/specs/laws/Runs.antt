@@ -288,7 +288,7 @@ module _ (p q : Pass) where
   left_unjudged c Unknown e = kept e.0
 
   left_by_submission : (bytes : List ℕ) (now at : ℕ) (v : SubmitReply) → IsSubmitAnswer p q bytes now at v → q.mine ≡ p.mine ++ step_of_reply p.number (command.Submit bytes now) (reply.Submit v)
-  left_by_submission bytes now at DecodeFailed a = same_mine a.1.same
+  left_by_submission bytes now at DecodeFailed a = kept (ap (λ (x : Pass). x.mine) a.1.same)
   left_by_submission bytes now at Accepted a = a.mine_is
   left_by_submission bytes now at Inconclusive a = a.mine_is
   left_by_submission bytes now at Duplicate a = a.mine_is

@@ -19,5 +19,6 @@ returns-clause-answer g c =
     let see = c.see-at.ensures in
     let origin : x.origin ≡ p.origin = ap (λ (v : ViewState). v.origin) c.get.ensures ∙ f.origin_is ∙ ap (λ (r : Pass). r.origin) c.self.view_is in
     let journal : x.journal ≡ q.seen = ap (λ (v : ViewState). v.journal) c.get.ensures ∙ sym f.entries_are ∙ sym see.seen in
-    let mine : q.mine ≡ p.mine = see.mine ∙ ap (λ (r : Pass). r.mine) c.self.view_is in
-    read_there p q x c.see-at.result origin journal (see.at ∙ ap (λ (l : List Entry). length l) (sym see.seen)) mine best_in c.best-value.result c.best-value.ensures
+    let mine : q.mine ≡ p.mine = see.kept.0 ∙ ap (λ (r : Pass). r.mine) c.self.view_is in
+    let wants : q.wants ≡ p.wants = see.kept.1 ∙ ap (λ (r : Pass). r.wants) c.self.view_is in
+    read_there p q x c.see-at.result origin journal (see.at ∙ ap (λ (l : List Entry). length l) (sym see.seen)) mine wants best_in c.best-value.result c.best-value.ensures

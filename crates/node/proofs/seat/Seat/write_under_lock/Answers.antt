@@ -56,6 +56,7 @@ returns-in-Ok-Some-clause-answer g c =
       at_is = c.len-at.ensures;
       mine_is = none ∙ whole ∙ own;
       own_is = sym (none ∙ whole);
+      wants_is = c.clear-2.ensures.items;
     }))
 
 pub returns-clause-held : goal.returns-clause-held
