@@ -141,19 +141,8 @@ class Calls(ReplicaTest):
     def test_no_database_and_no_history(self) -> None:
         self.assertIsInstance(self.raised(lambda: self.replica("one", url=f"host={self.room} dbname=none")), errors.Unavailable)
         self.assertIsInstance(self.raised(lambda: self.replica("one", url=self.database.url("postgres"))), errors.NoHistory)
-        self.database.run(self.history(), "UPDATE wakotehu.setting SET format = 2")
+        self.database.run(self.history(), "UPDATE wakotehu.setting SET format = 3")
         self.assertIsInstance(self.raised(lambda: self.replica("one")), errors.NoHistory)
-
-    def test_a_row_that_no_replica_writes(self) -> None:
-        """A gap in the places, and a command that isn't one, stop a replica."""
-        for place, command in ((2, "precious"), (1, "mine")):
-            self.history()
-            one = self.replica("one")
-            self.database.run(
-                self.url, "INSERT INTO wakotehu.commands VALUES (%s, %s, 'a', %s, %s, NULL)", place, uuid.uuid4(), command, bytes(32)
-            )
-            self.until(lambda: one._state.error is not None)
-            self.assertIsInstance(self.raised(one.status), errors.BadRow)
 
     def test_without_psycopg(self) -> None:
         """The package doesn't need it; a replica names what is missing."""

@@ -15,8 +15,8 @@ from .chainstate import REGTEST, Chainstate, Coin, Moved, Reply, Tip, read_id, s
 from .coinset import CoinSet
 from .consensus import ParsedTransaction
 from .errors import (
-    BadRequest, BadRow, BadTable, Busy, Closed, Contradiction, DatabaseMissing, DecodeFailed, Error, Genesis, HistoryFull,
-    LibraryMissing, Memory, NodeDied, NoHistory, NotAccepted, NotFound, NotSaved, OtherLoop, OtherProcess, Owed, ProgramMissing,
+    BadRequest, BadRow, BadTable, Busy, Closed, Contradiction, DatabaseMissing, DatabaseRefused, DecodeFailed, Error, Genesis,
+    HistoryFull, LibraryMissing, Memory, NodeDied, NoHistory, NotAccepted, NotDurable, NotFound, NotSaved, OtherLoop, OtherProcess, Owed, ProgramMissing,
     ReadOnly, Rejected, ReplicaDiffers, TimedOut, TooMany, TreeFull, Unavailable, Undecided, Wants,
 )  # fmt: skip
 from .node import AsyncNode, AsyncSeat, BlockHeader, Entry, Info, Node, Seat, Stamped, UnspentOutput
@@ -27,9 +27,9 @@ from .version import __version__
 
 __all__ = [
     "REGTEST", "AsyncNode", "AsyncReplica", "AsyncReplicaSeat", "AsyncSeat", "BadRequest", "BadRow", "BadTable",
-    "Bench", "BlockHeader", "Busy", "Chainstate", "Closed", "Coin", "CoinSet", "Contradiction", "DatabaseMissing",
+    "Bench", "BlockHeader", "Busy", "Chainstate", "Closed", "Coin", "CoinSet", "Contradiction", "DatabaseMissing", "DatabaseRefused",
     "DecodeFailed", "Entry", "Error", "Genesis", "HistoryFull", "Info", "LibraryMissing", "Memory", "Moved",
-    "NoHistory", "Node", "NodeDied", "NotAccepted", "NotFound", "NotSaved", "OtherLoop", "OtherProcess", "Owed",
+    "NoHistory", "Node", "NodeDied", "NotAccepted", "NotDurable", "NotFound", "NotSaved", "OtherLoop", "OtherProcess", "Owed",
     "ParsedTransaction", "Placed", "Pool",
     "ProgramMissing", "ReadOnly", "Rejected", "Replica", "ReplicaDiffers", "ReplicaSeat", "Reply", "Seat", "Stamped",
     "Status", "TimedOut", "Tip", "TooMany", "TreeFull", "Unavailable", "Undecided", "UnspentOutput", "Wants",

@@ -173,11 +173,11 @@ class AsyncReplica:
         self, url: str, seats: int = 4, *, name: Optional[str] = None, workers: int = 2,
         program: Optional[Path] = None, verify: Optional[Verify] = None, recheck: float = 0.0,
         timeout: Optional[float] = TIMEOUT, catch_up: Optional[float] = None, poll: float = 0.5,
-        watch: Optional[Watch] = None,
+        watch: Optional[Watch] = None, durable: bool = True,
     ) -> None:  # fmt: skip
         self._open = partial(
             Replica, url, seats, name=name, workers=workers, program=program, verify=verify, recheck=recheck,
-            timeout=timeout, catch_up=catch_up, poll=poll, watch=watch,
+            timeout=timeout, catch_up=catch_up, poll=poll, watch=watch, durable=durable,
         )  # fmt: skip
         self._replica: Optional[Replica] = None
         self._threads: Optional[ThreadPoolExecutor] = None

@@ -80,6 +80,14 @@ class Unavailable(Error):
     """The database can't be reached, or refuses rows. The command isn't in the table, and won't be."""
 
 
+class DatabaseRefused(Error):
+    """The database did nothing of what it was asked: the role lacks rights, say, or a `statement_timeout` ran out."""
+
+
+class NotDurable(Error):
+    """The database may lose rows that it has confirmed, by its settings (`fsync`, `full_page_writes`, `synchronous_commit`)."""
+
+
 class ReadOnly(Error):
     """The replica only follows: its role may not write."""
 

@@ -1,6 +1,7 @@
 """How a replica follows the log: it takes the rows on its node, in their order, and compares the replies."""
 
 import random
+import re
 import threading
 import time
 from collections import deque
@@ -21,6 +22,9 @@ _MANY = 1000
 _SOME = 100
 #: So many seconds others wait for the reply, and the verdicts, of the replica that appended a row.
 _GRACE = 1.0
+#: A client's name in a journal, and a verdict.
+_SEAT = re.compile("[A-Za-z0-9_]{1,32}")
+_VERDICT = re.compile("(?:in)?valid (?:[0-9a-f]+|-) (?:[0-9a-f]+|-) [0-9a-f]{64}")
 
 
 class Held(Exception):
@@ -108,9 +112,10 @@ class Follower(Connected):
 
     def _take_all(self, rows: Sequence[Row]) -> None:
         """Takes rows. Several are handed to the node at once where each is known to be one step."""
+        before = self._state.chain
         for place, row in enumerate(rows, self._state.taken + 1):
-            if row.place != place:
-                raise errors.BadRow(f"the log has place {row.place} where {place} is next")
+            row.check(place, before)
+            before = row.chain
         with self._turn:
             self._take_next(rows)
 
@@ -118,7 +123,7 @@ class Follower(Connected):
         """Takes rows whose places are next."""
         if len(rows) > 1 and self._watch is None and all(row.told is not None and row.told.reply != "decode-failed" for row in rows):
             self._state.places.note(range(self._steps + 1, self._steps + len(rows) + 1))
-            answers: List[Stamped[Reply]] = self._ask_all([_call(row) for row in rows])
+            answers: List[Stamped[Reply]] = self._ask_all([call_of(row) for row in rows])
             for row, answered in zip(rows, answers):
                 self._steps += 1
                 self._taken(row, answered, "")
@@ -130,7 +135,7 @@ class Follower(Connected):
 
     def _reply(self, row: Row, found: Dict[str, bool]) -> Stamped[Reply]:
         """Has the node take a row's command; `found` gets the verdicts for which it asks."""
-        call = _call(row)
+        call = call_of(row)
         if row.told is not None and row.told.verdicts:
             self._learn_told(row.place, row.told, found)
         while True:
@@ -156,7 +161,7 @@ class Follower(Connected):
 
     def _learn_told(self, place: int, told: Told, found: Dict[str, bool]) -> None:
         """Learns the verdicts that another replica found, and tests a share of them again."""
-        given = read_verdicts(told.verdicts)
+        given = read_verdicts(place, told.verdicts)
         own = [line for line in given if self._chance.random() < self._recheck]
         if own and self._verify is not None:
             for line, valid in zip(own, self._verify([line.encode() for line in own])):
@@ -206,7 +211,7 @@ class Follower(Connected):
         for place, told in log.told(places).items() if places else ():
             self._expect(place, self._untold.pop(place)[1], told)
             with self._turn:
-                for line in read_verdicts(told.verdicts) if self._early else ():
+                for line in read_verdicts(place, told.verdicts) if self._early else ():
                     self._early.pop(line, None)
         late = time.monotonic() - _GRACE
         self._write_replies([place for place in places if place in self._untold and self._untold[place][0] < late])
@@ -222,7 +227,7 @@ class Follower(Connected):
 
     def _expect(self, place: int, own: Told, told: Told) -> None:
         """Another reply, or another verdict on a signature, stops the replica."""
-        known, given = read_verdicts(own.verdicts), read_verdicts(told.verdicts)
+        known, given = read_verdicts(place, own.verdicts), read_verdicts(place, told.verdicts)
         if own.reply != told.reply or any(known.get(line, valid) is not valid for line, valid in given.items()):
             raise self._differ(place, "\n".join([own.reply, own.verdicts]).strip(), told)
 
@@ -237,10 +242,12 @@ class Follower(Connected):
         return errors.ReplicaDiffers(place, own, "\n".join([told.reply, told.verdicts]).strip(), told.replica)
 
 
-def _call(row: Row) -> Call:
-    """What the node is asked for a row."""
+def call_of(row: Row) -> Call:
+    """What the node is asked for a row; `BadRow` where it is no command."""
     command = row.command
     try:
+        if not _SEAT.fullmatch(command.seat):
+            raise ValueError(f"{command.seat!r} is no client's name")
         if command.command == "submit":
             return submission(command.data, command.now)
         return mark(command.command, command.data)
@@ -252,6 +259,12 @@ def _verdict_lines(found: Dict[str, bool]) -> str:
     return "\n".join(f"{'valid' if valid else 'invalid'} {line}" for line, valid in found.items())
 
 
-def read_verdicts(text: str) -> Dict[str, bool]:
-    """Verdicts, each a word and the line of a table."""
-    return {line: word == "valid" for word, _, line in (own.partition(" ") for own in text.splitlines())}
+def read_verdicts(place: int, text: str) -> Dict[str, bool]:
+    """The verdicts told of a place, each a word and the line of a table; `BadRow` where one is none."""
+    found = {}
+    for own in text.splitlines():
+        if not _VERDICT.fullmatch(own):
+            raise errors.BadRow(f"the verdicts of place {place} can't be read: {own[:80]!r}")
+        word, _, line = own.partition(" ")
+        found[line] = word == "valid"
+    return found

@@ -224,6 +224,7 @@ class Replica:
     timeout: how many seconds a call waits; None is for ever.
     catch_up: how many seconds the opening waits until the replica has what the table has; None is for ever.
     poll: how many seconds pass at most until the table is asked for new rows, where the database doesn't notify.
+    durable: False also takes a database whose settings may lose rows that it has confirmed (`NotDurable` says which).
     watch: is called with each row, its reply and a seat that reads just behind it, by the thread that takes the rows, before the
         reply is answered.
 
@@ -236,7 +237,7 @@ class Replica:
     def __init__(
         self, url: str, seats: int = 4, *, name: Optional[str] = None, workers: int = 2, program: Optional[Path] = None,
         verify: Optional[Verify] = None, recheck: float = 0.0, timeout: Optional[float] = TIMEOUT,
-        catch_up: Optional[float] = None, poll: float = 0.5, watch: Optional[Watch] = None,
+        catch_up: Optional[float] = None, poll: float = 0.5, watch: Optional[Watch] = None, durable: bool = True,
     ) -> None:  # fmt: skip
         self.url = arguments.text(url, "url")
         if not 1 <= number(seats, "seats") < MOST:
@@ -246,7 +247,7 @@ class Replica:
         recheck, poll = _share(recheck), arguments.seconds(poll, "poll") or 0.5
         self._count = int(seats)
         self._seats: Dict[int, ReplicaSeat] = {}
-        self._state = State(self.name)
+        self._state = State(self.name, arguments.instance(durable, bool, "durable"))
         logs = [self._connect()]
         try:
             used = self._open(logs, workers, program, verify)
@@ -281,6 +282,8 @@ class Replica:
         """Opens the node, and one more connection where rows may be added: what finds out signatures, or None for a table."""
         try:
             setting, self._may_write = logs[0].setting(), logs[0].may_write()
+            if self._state.is_durable:
+                logs[0].check_durable()
         except Lost as error:
             raise errors.Unavailable(f"the database can't be reached: {error}") from None
         #: Under which rules all replicas run.

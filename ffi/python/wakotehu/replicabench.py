@@ -31,7 +31,9 @@ class ReplicaBench(NodeBench):
     for each. So a call that holds `turn` and asks nothing sees one place, and a read comes after every row that was taken.
     """
 
-    def __init__(self, url: str, seats: int = SEATS, workers: int = 2, program: Optional[str] = None) -> None:
+    def __init__(
+        self, url: str, seats: int = SEATS, workers: int = 2, program: Optional[str] = None, durable: bool = True
+    ) -> None:
         self.index = Index()
         self.turn = threading.Condition(threading.Lock())
         self.steps = self.loaded = 0
@@ -42,7 +44,9 @@ class ReplicaBench(NodeBench):
         self._threads = [0] * seats
         self._seen = [0] * seats
         # A block may take longer than callers of a node wait.
-        self.replica = Replica(url, seats, workers=workers, program=program, timeout=None, watch=self._took)
+        self.replica = Replica(
+            url, seats, workers=workers, program=program, timeout=None, watch=self._took, durable=durable
+        )
         self.heights = self.replica.setting.heights
         self.table = self.replica.setting.signatures
         self.known = KnownSignatures(secp256k1, b"") if self.replica.setting.by_need else None

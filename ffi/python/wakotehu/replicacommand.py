@@ -16,7 +16,7 @@ from typing import IO, Dict, List, Optional, Sequence, Union
 from . import arguments, errors
 from .chainstate import REGTEST, read_heights, show
 from .encoding import double_sha
-from .following import read_verdicts
+from .following import call_of, read_verdicts
 from .replica import Replica
 from .replicalog import FORMAT, Log, Lost, Refused, Row, Told
 from .served import program_path
@@ -64,9 +64,11 @@ class Exported:
         with open(os.path.join(self.folder, "journal.txt"), "w", encoding="ascii") as journal:
             with open(os.path.join(self.folder, "blocks.blk"), "wb") as blocks:
                 self.newest = log.newest()
+                before = b""
                 for place, row in enumerate(log.copied(0, self.newest), 1):
-                    if row.place != place:
-                        raise errors.BadRow(f"the log has place {row.place} where {place} is next")
+                    row.check(place, before)
+                    call_of(row)
+                    before = row.chain
                     # From the first row on that has no reply yet, nothing is written.
                     if row.told is not None and self.places == place - 1:
                         self._put(row, row.told, journal, blocks)
@@ -81,7 +83,7 @@ class Exported:
 
     def _put(self, row: Row, told: Told, journal: IO[str], blocks: IO[bytes]) -> None:
         self.places += 1
-        self.known.update(read_verdicts(told.verdicts))
+        self.known.update(read_verdicts(row.place, told.verdicts))
         command = row.command
         # Bytes that are no block are no step.
         if told.reply == "decode-failed":
@@ -139,7 +141,7 @@ def _follow(given: argparse.Namespace) -> int:
     """Follows, and says once a second where the replica is, until it is told to end."""
     signal.signal(signal.SIGTERM, signal.default_int_handler)
     try:
-        with Replica(given.url, 1, name=given.name, recheck=given.recheck) as replica:
+        with Replica(given.url, 1, name=given.name, recheck=given.recheck, durable=not given.not_durable) as replica:
             shown = -1
             while True:
                 status = replica.status()
@@ -190,6 +192,7 @@ def _parser() -> argparse.ArgumentParser:
     init.add_argument("--by-need", action="store_true", help="replicas find out which signatures are valid, by libsecp256k1")
     follow = add("follow", "Follows on a node of its own, compares all replies, and ends with status 1 where one differs.")
     follow.add_argument("--name", metavar="NAME", help="the replica's name")
+    follow.add_argument("--not-durable", action="store_true", help="also where the database's settings may lose rows that it has confirmed")
     follow.add_argument("--recheck", metavar="SHARE", type=float, default=0.0, help="which share of verdicts is tested again, 0 to 1")
     exported = add("export", "Writes the history as the files of a run, which regchain audits and loads.")
     exported.add_argument("folder", metavar="FOLDER", help="a folder without a journal; it is made where it isn't there")

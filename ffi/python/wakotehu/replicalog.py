@@ -3,6 +3,7 @@
 import os
 import select
 import socket
+from hashlib import sha256
 from types import TracebackType
 from typing import Any, Dict, Iterable, Iterator, List, NamedTuple, Optional, Sequence, Tuple, Type
 from uuid import UUID
@@ -12,7 +13,9 @@ from . import errors
 #: So many bytes of blocks are read at once.
 LARGE = 16_000_000
 #: The format of the tables, as `setting` names it.
-FORMAT = 1
+FORMAT = 2
+#: By these settings a crash of the database loses rows that it has confirmed.
+_LOSES = {"fsync": "off", "full_page_writes": "off", "synchronous_commit": "off"}
 #: A connection that nobody answers is lost after some 10 seconds. What the URL says comes before these.
 _DEFAULTS = {
     "connect_timeout": "10", "keepalives_idle": "5", "keepalives_interval": "2", "keepalives_count": "3",
@@ -21,8 +24,8 @@ _DEFAULTS = {
 
 #: The place is taken (unique_violation); two commits waited for one another (serialization_failure, deadlock_detected).
 _AGAIN = ("23505", "40001", "40P01")
-_ROW = "c.place, c.token, c.seat, c.command, c.bytes, c.now, r.reply, r.verdicts, r.replica"
-_TYPES = ("int8", "uuid", "text", "text", "bytea", "int8", "text", "text", "text")
+_ROW = "c.place, c.token, c.seat, c.command, c.bytes, c.now, c.chain, r.reply, r.verdicts, r.replica"
+_TYPES = ("int8", "uuid", "text", "text", "bytea", "int8", "bytea", "text", "text", "text")
 #: Both tables by a range of places, so that neither is gone over.
 _ROWS = f"""SELECT {_ROW} FROM wakotehu.commands c
     LEFT JOIN wakotehu.replies r ON r.place = c.place AND r.place > {{after}} AND r.place <= {{last}}
@@ -63,11 +66,25 @@ class Told(NamedTuple):
 
 
 class Row(NamedTuple):
-    """A row of the log; `told` is None where no replica wrote its reply yet."""
+    """A row of the log: `chain` is its hash with the row before it; `told` is None where no replica wrote its reply yet."""
 
     place: int
     command: Command
+    chain: bytes
     told: Optional[Told]
+
+    def check(self, place: int, before: bytes) -> None:
+        """Raises `BadRow` unless this is the row of a place, behind one with that `chain` (`wakotehu.chained` in replica.sql)."""
+        if self.place != place:
+            raise errors.BadRow(f"the log has place {self.place} where {place} is next")
+        token, seat, command, data, now = self.command
+        found = sha256(before + place.to_bytes(8, "big") + token.bytes)
+        for text in (seat.encode(), command.encode()):
+            found.update(len(text).to_bytes(4, "big") + text)
+        found.update((-1 if now is None else now).to_bytes(8, "big", signed=True))
+        found.update(data)
+        if found.digest() != self.chain:
+            raise errors.BadRow(f"place {place} was changed: its hash isn't that of the row and the one before it")
 
 
 class Setting(NamedTuple):
@@ -78,12 +95,11 @@ class Setting(NamedTuple):
     by_need: bool
 
 
-class Lost(Exception):
+class Lost(errors.Error):
     """The connection is lost. Whether what was under way was done isn't known."""
 
 
-class Refused(Exception):
-    """The database did nothing of what it was asked."""
+Refused = errors.DatabaseRefused
 
 
 def psycopg() -> Any:
@@ -169,9 +185,16 @@ class Log:
             raise errors.NoHistory("the database has no history: wakotehu-replica init makes one")
         form, heights, signatures, by_need = rows[0]
         if form != FORMAT:
-            raise errors.NoHistory(f"the history is of format {form}, and this package knows {FORMAT}")
+            more = ": wakotehu-replica init brings it there" if form == 1 else ""
+            raise errors.NoHistory(f"the history is of format {form}, and this package knows {FORMAT}{more}")
         bip34, bip65, bip66, csv = heights
         return Setting((bip34, bip65, bip66, csv), bytes(signatures), by_need)
+
+    def check_durable(self) -> None:
+        """Raises `NotDurable` where a crash of the database may lose what it has confirmed."""
+        for name, value in _LOSES.items():
+            if self.ask("SELECT current_setting(%b::text)", name)[0][0] == value:
+                raise errors.NotDurable(f"the database has {name} = {value}: a crash may lose rows that it has confirmed")
 
     def may_write(self) -> bool:
         """Whether the role may add rows."""
@@ -186,11 +209,11 @@ class Log:
         """The highest place, or 0."""
         return int(self.ask("SELECT coalesce(max(place), 0) FROM wakotehu.commands")[0][0])
 
-    def look(self, place: int) -> Tuple[int, Optional[UUID]]:
-        """The highest place, or 0; and the token of the row at a place."""
-        row = "(SELECT token FROM wakotehu.commands WHERE place = %b)"
-        [(newest, token)] = self.ask(f"SELECT coalesce(max(place), 0), {row} FROM wakotehu.commands", place)
-        return newest, token
+    def look(self, place: int) -> Tuple[int, bytes]:
+        """The highest place, or 0; and the `chain` of the row at a place, or nothing where there is none."""
+        row = "(SELECT chain FROM wakotehu.commands WHERE place = %b)"
+        [(newest, chain)] = self.ask(f"SELECT coalesce(max(place), 0), {row} FROM wakotehu.commands", place)
+        return newest, bytes(chain or b"")
 
     def tail(self, after: int, most: int) -> List[Row]:
         """The first rows above a place: so many, and fewer where they are large."""
@@ -295,9 +318,9 @@ def _said(error: Exception) -> str:
 
 
 def _row(found: Tuple[Any, ...]) -> Row:
-    place, token, seat, command, data, now, reply, verdicts, replica = found
+    place, token, seat, command, data, now, chain, reply, verdicts, replica = found
     told = None if reply is None else Told(reply, verdicts, replica)
-    return Row(place, Command(token, seat, command, bytes(data), now), told)
+    return Row(place, Command(token, seat, command, bytes(data), now), bytes(chain), told)
 
 
 def _columns(rows: Sequence[Tuple[Any, ...]], count: int) -> List[Sequence[Any]]:

@@ -83,17 +83,19 @@ Watch = Callable[[Row, Reply, Seat], None]
 class State:
     """What the threads of a replica share. Who reads or changes it holds `lock`."""
 
-    def __init__(self, name: str) -> None:
+    def __init__(self, name: str, is_durable: bool = True) -> None:
         self.name = name
+        #: Whether a database whose settings may lose confirmed rows is refused.
+        self.is_durable = is_durable
         self.lock = Lock()
         #: Told of each place that is taken, and of the end.
         self.moved = Condition(self.lock)
         #: Told of what there is to append, and of the end.
         self.work = Condition(self.lock)
         self.places = Places()
-        #: The place that the node has taken, and the token of its row.
+        #: The place that the node has taken, and the hash of its row with all before it.
         self.taken = 0
-        self.token: Optional[UUID] = None
+        self.chain = b""
         self.fresh: Optional[Fresh] = None
         #: Why the replica has stopped.
         self.error: Optional[errors.Error] = None
@@ -129,7 +131,7 @@ class State:
     def answer(self, row: Row, reply: Reply) -> None:
         """A row was taken: who asked for it hears of it."""
         with self.lock:
-            self.taken, self.token = row.place, row.command.token
+            self.taken, self.chain = row.place, row.chain
             write = self.writes.get(row.command.token)
             if write is not None:
                 write.place, write.reply = row.place, reply
@@ -172,6 +174,8 @@ class Connected(Thread):
                 self._log = self._log or Log(self._url)
                 self._note_lost(None)
                 with self._log as log:
+                    if self._state.is_durable:
+                        log.check_durable()
                     self.work(log)
             except (Lost, Refused) as lost:
                 wait = _SOON if self._log is not None else min(2 * wait, _LATE)
@@ -221,10 +225,10 @@ class Connected(Thread):
     def look(self, log: Log) -> int:
         """The newest place. A log without the row that was taken last is another one, as after a failover that lost rows."""
         with self._state.lock:
-            taken, token = self._state.taken, self._state.token
+            taken, chain = self._state.taken, self._state.chain
         newest, found = log.look(taken)
         # A standby alone may be behind what this replica took elsewhere.
-        if found != token and (newest >= taken or not log.is_standby()):
+        if found != chain and (newest >= taken or not log.is_standby()):
             raise errors.BadRow(f"the log has lost or changed place {taken}, which this replica took")
         return newest
 

@@ -136,6 +136,7 @@ def _parser() -> _Parser:
     add("--table", metavar="F", help="a file of the signatures that are valid, a key, signature and digest a line; no other is,"
         " and libsecp256k1 isn't asked")  # fmt: skip
     add("--replica", metavar="URL", help="one history with other machines, in this database (wakotehu-replica init)")
+    add("--replica-not-durable", action="store_true", help="also where the database's settings may lose rows that it has confirmed")
     add("--workers", metavar="N", help="how many threads check a block's scripts, 1 to 16; 2 by default")
     add("--fsync", action="store_true", default=True, help="answers when the history is on the disk; it is the default")
     add("--no-fsync", dest="fsync", action="store_false", help="doesn't wait for the disk: a crash of the machine may lose commands")
@@ -273,7 +274,7 @@ def _link_cookie(folder: str) -> None:
 
 def _bench(given: argparse.Namespace, folder: Optional[Folder]) -> NodeBench:
     if given.replica is not None:
-        return ReplicaBench(given.replica, workers=given.workers)
+        return ReplicaBench(given.replica, workers=given.workers, durable=not given.replica_not_durable)
     verify = Verifier().verdicts if given.table is None else None
     table = None
     if given.table is not None:
