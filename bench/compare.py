@@ -74,6 +74,7 @@ NODE = [
     ("seats-4", "four seats", [100]),
     ("turns-1", "one branch, one seat", [50]),
     ("turns-4", "four seats in turn", [50]),
+    ("submit", "blocks of 2,000 payments to a script's hash, from bytes to published coins", [25]),
     ("workers-1", "long-code payments, one worker", [100]),
     ("workers-4", "four workers", [100]),
 ]
@@ -99,7 +100,10 @@ MEMORY = [
     ("keep", "a block without payments, a node", 190, 700, [50_000, 100_000]),
     ("keep-heavy", "of almost a megabyte, a node", 999_205, 2 * 999_205 + 300, [20, 60]),
     ("hold-coins", "a coin of 25 script bytes, a map", 0, 170, [500_000, 1_000_000]),
-    ("keep-coins", "a coin of one script byte, a node", 27, 130, [100_000, 200_000]),
+    # A map of ordered nodes is less full after one has become many, so a range says little of another.
+    ("keep-coins", "a coin of one script byte, a node of 100,000 to 200,000", 27, 130, [100_000, 200_000]),
+    ("keep-coins", "of 400,000 to 800,000", 27, 130, [400_000, 800_000]),
+    ("keep-coins", "of 800,000 to 1,600,000", 27, 130, [800_000, 1_600_000]),
 ]
 
 # How long ours may take where the baseline takes 1, without SHA instructions where it has them hidden; 1 where no other

@@ -19,7 +19,7 @@ if {"-h", "--help"} & set(sys.argv[1:]):
 HERE = os.path.dirname(os.path.abspath(__file__))
 # The groups in their order: a title, and how the names of its rows begin.
 GROUPS = [
-    ("A node, as its callers see it", ("read-", "slowest", "seats-", "turns-", "publish-", "workers-")),
+    ("A node, as its callers see it", ("read-", "slowest", "seats-", "turns-", "submit", "publish-", "workers-")),
     ("Blocks and the chain", ("connect-", "chain", "blocks-above", "reorganise", "alone", "decode", "write", "records")),
     ("Coins", ("coins-",)),
     ("Scripts and signatures", ("key-hash", "two-of-three", "swaps", "hashes", "long-code", "conditions", "digests", "each-input", "queue-")),

@@ -60,6 +60,8 @@ inline std::optional<Undo> connect(
             fees += worth - paid;
             std::vector<Coin>& spent = undo.emplace_back();
             for (const TxIn& input : tx.inputs) spent.push_back(std::move(*view.spend(input.prev)));
+            for (size_t i = 0; i < spent.size(); i++) counted += p2sh_sigops(tx.inputs[i].script, spent[i].script);
+            if (counted > 20000) return std::nullopt;
             for (size_t i = 0; i < spent.size(); i++) jobs.push_back(Job{&tx, i, &spent[i].script});
             if (jobs.size() >= GATHERED) round.add(std::exchange(jobs, {}));
         }

@@ -584,6 +584,7 @@ int main(int count, char** words) {
         {"seats-4", [](size_t n) { return branches(n, 4); }},
         {"turns-1", turns},
         {"turns-4", turns},
+        {"submit", submitted},
         {"workers-1", [](size_t n) { return worked(n, 1); }},
         {"workers-4", [](size_t n) { return worked(n, 4); }},
         {"keep", [](size_t n) { return keep(Branch{1}, n); }},

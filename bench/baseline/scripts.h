@@ -168,12 +168,13 @@ inline bool run(std::vector<Bytes>& stack, const Script& script, const Job& job,
                 if (stack.size() < 2) return false;
                 std::swap(top(-2), top(-1));
                 break;
-            case 0x88: {
+            case 0x87: case 0x88: {
                 if (stack.size() < 2) return false;
                 bool equal = top(-2) == top(-1);
                 stack.pop_back();
                 stack.pop_back();
-                if (!equal) return false;
+                if (op == 0x87) stack.push_back(equal ? Bytes(1, 1) : Bytes());
+                else if (!equal) return false;
                 break;
             }
             case 0xa9: {
@@ -230,10 +231,45 @@ inline bool run(std::vector<Bytes>& stack, const Script& script, const Job& job,
     return conditions.size == 0;
 }
 
-// Bitcoin Core's VerifyScript. No workload pays to the hash of a script.
+inline bool is_p2sh(const Script& script) {
+    return script.size() == 23 && script[0] == 0xa9 && script[1] == 20 && script[22] == 0x87;
+}
+inline bool is_push_only(const Script& script) {
+    const uint8_t *at = script.begin(), *const end = script.end(), *data;
+    size_t size;
+    uint8_t op;
+    while (at < end)
+        if (!next_op(at, end, op, data, size) || op > 0x60) return false;
+    return true;
+}
+
+// Those of the script whose hash is paid to, which the input pushes last (GetP2SHSigOpCount).
+inline unsigned p2sh_sigops(const Script& input, const Script& spent) {
+    if (!is_p2sh(spent) || !is_push_only(input)) return 0;
+    const uint8_t *at = input.begin(), *end = input.end(), *data = nullptr;
+    size_t size = 0;
+    uint8_t op, last = 0xff;
+    while (at < end) next_op(at, end, op, data, size);
+    unsigned count = 0;
+    for (at = data, end = data + size; at < end && next_op(at, end, op, data, size); last = op) {
+        if (op == 0xac || op == 0xad) count++;
+        if (op == 0xae || op == 0xaf) count += last >= 0x51 && last <= 0x60 ? last - 0x50 : 20;
+    }
+    return count;
+}
+
+// Bitcoin Core's VerifyScript.
 inline bool verify(const Job& job, const Table& table) {
-    std::vector<Bytes> stack;
-    if (!run(stack, job.tx->inputs[job.input].script, job, table)) return false;
+    const Script& input = job.tx->inputs[job.input].script;
+    const bool pays_to_hash = is_p2sh(*job.spent);
+    std::vector<Bytes> stack, pushed;
+    if (!run(stack, input, job, table)) return false;
+    if (pays_to_hash) pushed = stack;
     if (!run(stack, *job.spent, job, table)) return false;
-    return !stack.empty() && truth(stack.back());
+    if (stack.empty() || !truth(stack.back())) return false;
+    if (!pays_to_hash) return true;
+    if (!is_push_only(input) || pushed.empty()) return false;
+    Script inner(pushed.back().data(), pushed.back().data() + pushed.back().size());
+    pushed.pop_back();
+    return run(pushed, inner, job, table) && !pushed.empty() && truth(pushed.back());
 }

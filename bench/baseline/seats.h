@@ -13,6 +13,16 @@ static std::vector<Tx> payments_of(Filling& filling, const OutPoint* coins, size
         payments.push_back(spending(coins[i], signed_input(filling), std::vector<TxOut>(outputs, TxOut{worth, script})));
     return payments;
 }
+// What pays to the hash of a script that accepts, and what spends it (BIP 16).
+static Script to_true_hash() {
+    const uint8_t accepts = 0x51;
+    ShortHash hash = hash160(&accepts, 1);
+    Script script{0xa9, 20};
+    script.append(hash.data(), hash.size());
+    script.push_back(0x87);
+    return script;
+}
+static const Script SPENDS_TRUE_HASH{1, 0x51};
 static void put_made(Places& made, const std::vector<Tx>& payments) {
     for (const Tx& tx : payments) {
         Hash id = id_of(tx);
@@ -65,6 +75,18 @@ static BlockList paying(Branch branch, Places coins, size_t count) {
     BlockList blocks;
     for (size_t i = 0; i < count; i++) {
         std::vector<Tx> payments = payments_of(filling, coins.data(), coins.size(), 1, WORTH, {0x51});
+        coins.clear();
+        put_made(coins, payments);
+        blocks.push_back(branch.next(std::move(payments)));
+    }
+    return blocks;
+}
+static BlockList paying_to_hashes(Branch branch, Places coins, size_t count) {
+    Script script = to_true_hash();
+    BlockList blocks;
+    for (size_t i = 0; i < count; i++) {
+        std::vector<Tx> payments;
+        for (const OutPoint& at : coins) payments.push_back(spending(at, SPENDS_TRUE_HASH, {TxOut{WORTH, script}}));
         coins.clear();
         put_made(coins, payments);
         blocks.push_back(branch.next(std::move(payments)));
@@ -175,6 +197,11 @@ static std::string published(size_t coins, size_t payments) {
 static std::string turns(size_t size) {
     Start base = started(1000, 0);
     return in_turn(base.blocks, paying(base.branch, base.coins, size), 1);
+}
+static std::string submitted(size_t size) {
+    Start base;
+    base.fan(2000, to_true_hash());
+    return in_turn(base.blocks, paying_to_hashes(base.branch, base.coins, size), 1);
 }
 static std::string branches(size_t size, size_t seats) {
     Start base = started(1000, 0);

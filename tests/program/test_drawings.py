@@ -50,13 +50,16 @@ class Drawings(unittest.TestCase):
         self.assertEqual((ran.returncode, ran.stderr), (0, ""))
         told = of_felt(
             "| read-coin-4 | 100,000 | | 0.080000 | 0.160000 | 0.50 | 1, met |\n"
-            "| keep-coins | a coin of one script byte, a node | 27 | 434 | 185 | 340, missed |\n"
+            "| submit | 25 | | 0.500000 | 0.250000 | 2.00 | 1, missed |\n"
+            "| keep-coins | a coin of one script byte, a node of 100,000 to 200,000 | 27 | 434 | 185 | 340, missed |\n"
+            "| keep-coins | of 400,000 to 800,000 | 27 | 310 | 140 | 340, met |\n"
             "## Beside a real node\n"
             "| payments | 200 | `litecoind` | 10.000 | 14.02 | 119 | 63 |\n| | | `regchain serve` | 8.000 | 9.22 | 234 | 0 |\n"
         )
         for line in (
             "| the same, four seats (`read-coin-4`) | 5,000,000 | 2,500,000 |",
-            "| bytes a coin in a node (`keep-coins`) | 434 | 185 |",
+            "| blocks of 2,000 payments a second, from bytes to published coins (`submit`) | 50 | 100 |",
+            "| bytes a coin in a node, where most (`keep-coins`) | 434 | 185 |",
             "- blocks of 2,000 payments a second, by [whole programs](#beside-a-real-node): `litecoind` 20, `regchain serve` 25.",
         ):
             self.assertIn(line, told.splitlines())

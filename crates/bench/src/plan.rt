@@ -5,8 +5,9 @@ use std::alloc::Global;
 use txn::OutPoint;
 use workloads::inputs::InputsFault;
 use workloads::inputs::branch::Branch;
+use workloads::inputs::payments::TO_TRUE_HASH;
 use workloads::inputs::scripts::long_script_alone;
-use workloads::inputs::start::{Start, branches as branches_of, paying};
+use workloads::inputs::start::{Start, branches as branches_of, paying, paying_to_hashes};
 
 /// The payments of a block beside which is read, and in each of branches that are submitted at once.
 const PAYMENTS: usize = 1000;
@@ -121,6 +122,18 @@ fn in_turn(
 /// This many blocks of 1,000 payments on one branch.
 pub fn turns(alloc: Global, count: usize, seats: usize) -> Result<Plan, InputsFault> {
     in_turn(alloc, Start::shuffled(alloc, PAYMENTS, 0), count, seats, 1)
+}
+
+/// This many blocks of 2,000 payments to the hash of a script: all that a submission takes, from bytes to published coins.
+pub fn submitted(alloc: Global, count: usize) -> Result<Plan, InputsFault> {
+    let start = Start::new(alloc, 2 * PAYMENTS, TO_TRUE_HASH)?;
+    let written = paying_to_hashes(alloc, start.branch, start.coins.as_slice(), count)?;
+    Ok(Plan {
+        seats: 1,
+        workers: 1,
+        below: start.blocks,
+        work: SeatWorkload::Turns(written),
+    })
 }
 
 /// Ten blocks of so many payments over so many coins, each of which changes two coins for a payment and one more.

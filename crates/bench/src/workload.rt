@@ -57,6 +57,7 @@ pub enum Workload {
     Publish(usize),
     Seats(usize),
     Turns(usize),
+    Submit,
     Workers(usize),
     Keep,
     KeepHeavy,
@@ -65,7 +66,7 @@ pub enum Workload {
 }
 
 /// Each workload with its name, and the small size at which it is done without words.
-pub const ALL: [(Workload, &str, usize); 61] = [
+pub const ALL: [(Workload, &str, usize); 62] = [
     (Workload::DoubleSha, "double-sha", 3),
     (Workload::Ripemd, "ripemd", 3),
     (Workload::RipemdLong, "ripemd-long", 200),
@@ -121,6 +122,7 @@ pub const ALL: [(Workload, &str, usize); 61] = [
     (Workload::Seats(4), "seats-4", 1),
     (Workload::Turns(1), "turns-1", 2),
     (Workload::Turns(4), "turns-4", 2),
+    (Workload::Submit, "submit", 2),
     (Workload::Workers(1), "workers-1", 3),
     (Workload::Workers(4), "workers-4", 3),
     (Workload::Keep, "keep", 3),
@@ -222,6 +224,7 @@ impl Workload {
             Workload::Publish(payments) => plan::published(alloc, size, payments),
             Workload::Seats(seats) => plan::branches(alloc, size, seats),
             Workload::Turns(seats) => plan::turns(alloc, size, seats),
+            Workload::Submit => plan::submitted(alloc, size),
             Workload::Workers(workers) => plan::worked(alloc, size, workers),
             Workload::KeepHeavy => Ok(plan::kept(alloc, Branch::heavy(1), size)),
             Workload::KeepCoins => plan::kept_coins(alloc, size),

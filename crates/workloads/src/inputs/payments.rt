@@ -13,6 +13,15 @@ use txn::{Inputs, OutPoint, Outputs, Script, Tx, TxIn, TxOut, ids};
 /// A script that accepts.
 pub const TRUE: &[u8] = &[0x51];
 
+/// The script that pays to the hash of [`TRUE`] (BIP 16): `HASH160 20 EQUAL`.
+pub const TO_TRUE_HASH: &[u8] = &[
+    0xa9, 0x14, 0xda, 0x17, 0x45, 0xe9, 0xb5, 0x49, 0xbd, 0x0b, 0xfa, 0x1a, 0x56, 0x99, 0x71, 0xc7,
+    0x7e, 0xba, 0x30, 0xcd, 0x5a, 0x4b, 0x87,
+];
+
+/// The input script that spends such an output: the push of [`TRUE`].
+pub const SPENDS_TRUE_HASH: &[u8] = &[1, 0x51];
+
 /// A script of these bytes.
 fn script(alloc: Global, bytes: &[u8]) -> Result<Script, InputsFault> {
     Ok(Script::from_vec(copied(alloc, bytes)?))

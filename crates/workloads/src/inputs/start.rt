@@ -3,7 +3,7 @@
 use crate::inputs::branch::{Branch, bytes_of};
 use crate::inputs::fault::InputsFault;
 use crate::inputs::lists::{copied, put, put_made};
-use crate::inputs::payments::{TRUE, outputs, signed, spending};
+use crate::inputs::payments::{SPENDS_TRUE_HASH, TO_TRUE_HASH, TRUE, outputs, signed, spending};
 use crate::inputs::random_bytes::Filling;
 use hash::Id;
 use std::alloc::Global;
@@ -21,13 +21,30 @@ const SPREAD: usize = 3000;
 /// What a coin is worth that a coinbase is spent for.
 pub const WORTH: i64 = 100_000;
 
-/// What a payment pays: so many outputs of a worth, with a script.
+/// What a payment spends and pays: its input script, or one of the usual length, and `outputs` of a worth with a script.
 #[derive(Clone, Copy)]
 struct Paid<'s> {
+    input: Option<&'s [u8]>,
     outputs: usize,
     worth: i64,
     script: &'s [u8],
 }
+
+/// One output to a script that accepts whatever the input script pushes.
+const TO_TRUE: Paid<'static> = Paid {
+    input: None,
+    outputs: 1,
+    worth: WORTH,
+    script: TRUE,
+};
+
+/// One output to the hash of a script, spent from such a one.
+const TO_HASH: Paid<'static> = Paid {
+    input: Some(SPENDS_TRUE_HASH),
+    outputs: 1,
+    worth: WORTH,
+    script: TO_TRUE_HASH,
+};
 
 /// A payment of each coin.
 fn payments(
@@ -49,9 +66,11 @@ fn payment(
     prev: OutPoint,
     paid: &Paid<'_>,
 ) -> Result<Tx, InputsFault> {
-    let input = signed(filling);
     let outputs = outputs(alloc, paid.outputs, paid.worth, paid.script);
-    spending(alloc, prev, input.as_slice(), outputs)
+    match paid.input {
+        Some(input) => spending(alloc, prev, input, outputs),
+        None => spending(alloc, prev, signed(filling).as_slice(), outputs),
+    }
 }
 
 /// Puts the outpoints that payments made behind others.
@@ -168,8 +187,8 @@ impl Start {
     ) -> Result<(), InputsFault> {
         let paid = Paid {
             outputs,
-            worth: WORTH,
             script,
+            ..TO_TRUE
         };
         let payments = payments(alloc, &mut self.filling, &[prev], &paid)?;
         put_outpoints(alloc, &mut self.coins, payments.as_slice())?;
@@ -190,7 +209,7 @@ impl Start {
         let paid = Paid {
             outputs: 10,
             worth: WORTH / 10,
-            script: TRUE,
+            ..TO_TRUE
         };
         let (_, coins) = self.coins.as_slice().split_at(from.min(self.coins.len()));
         let payments = payments(alloc, &mut self.filling, coins, &paid)?;
@@ -207,12 +226,32 @@ pub fn paying(
     coins: &[OutPoint],
     count: usize,
 ) -> Result<Vec<Vec<u8>>, InputsFault> {
+    paying_as(alloc, branch, coins, count, &TO_TRUE)
+}
+
+/// The same of coins that pay to the hash of a script ([`TO_TRUE_HASH`]), and so do the payments.
+pub fn paying_to_hashes(
+    alloc: Global,
+    branch: Branch,
+    coins: &[OutPoint],
+    count: usize,
+) -> Result<Vec<Vec<u8>>, InputsFault> {
+    paying_as(alloc, branch, coins, count, &TO_HASH)
+}
+
+fn paying_as(
+    alloc: Global,
+    branch: Branch,
+    coins: &[OutPoint],
+    count: usize,
+    paid: &Paid<'_>,
+) -> Result<Vec<Vec<u8>>, InputsFault> {
     let mut branch = branch;
     let mut filling = Filling::new(u64::from(branch.number).wrapping_add(20));
     let mut coins = copied(alloc, coins)?;
     let mut blocks = Vec::new(alloc);
     for _ in 0..count {
-        let bytes = next_paying(alloc, &mut branch, &mut filling, &mut coins);
+        let bytes = next_paying(alloc, &mut branch, &mut filling, &mut coins, paid);
         put_made(&mut blocks, bytes)?;
     }
     Ok(blocks)
@@ -224,13 +263,9 @@ fn next_paying(
     branch: &mut Branch,
     filling: &mut Filling,
     coins: &mut Vec<OutPoint>,
+    paid: &Paid<'_>,
 ) -> Result<Vec<u8>, InputsFault> {
-    let paid = Paid {
-        outputs: 1,
-        worth: WORTH,
-        script: TRUE,
-    };
-    let payments = payments(alloc, filling, coins.as_slice(), &paid)?;
+    let payments = payments(alloc, filling, coins.as_slice(), paid)?;
     coins.clear();
     put_outpoints(alloc, coins, payments.as_slice())?;
     branch.next_bytes(alloc, payments)
