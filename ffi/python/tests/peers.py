@@ -19,12 +19,12 @@ IS_THERE = shutil.which("litecoind") is not None
 class Litecoind:
     """A litecoind on regtest before segregated witness, on genesis alone."""
 
-    def __init__(self):
+    def __init__(self, *flags):
         with socket.create_server(("127.0.0.1", 0)) as probe:
             port = probe.getsockname()[1]
         self.folder = tempfile.TemporaryDirectory()
         words = ["litecoind", "-regtest", f"-datadir={self.folder.name}", "-segwitheight=-1", f"-rpcport={port}", "-rpcuser=u",
-                 "-rpcpassword=p", "-listen=0", "-connect=0", "-dnsseed=0", "-printtoconsole=0"]  # fmt: skip
+                 "-rpcpassword=p", "-listen=0", "-connect=0", "-dnsseed=0", "-printtoconsole=0", *flags]  # fmt: skip
         self.process = subprocess.Popen(words, stdout=subprocess.DEVNULL, stderr=subprocess.DEVNULL)
         self.url = f"http://u:p@127.0.0.1:{port}"
 

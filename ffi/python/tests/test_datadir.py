@@ -524,7 +524,7 @@ class FlagsTest(FolderCase):
             ("-chain=", "regtest alone"), ("-testnet", "regtest alone"), ("-signet=1", "regtest alone"),
             ("-server=0", "the server"), ("-noserver", "the server"), ("-daemon", "foreground"), ("-daemon=1", "foreground"),
             ("-daemonwait", "foreground"), ("-listen", "peers"), ("-listen=1", "peers"), ("-connect=10.0.0.1", "peers"), ("-connect=localhost", "peers"),
-            ("-addnode=10.0.0.1", "peers"), ("-upnp", "peers"), ("-discover=1", "peers"), ("-debuglogfile=x.log", "logged"), ("-blockfilterindex", "index"), ("-coinstatsindex=1", "index"), ("-maxmempool=x", "number"), ("-rest", "/rest/"),
+            ("-addnode=10.0.0.1", "peers"), ("-upnp", "peers"), ("-discover=1", "peers"), ("-debuglogfile=x.log", "logged"), ("-blockfilterindex=extended", "Unknown -blockfilterindex value extended."), ("-coinstatsindex=1", "index"), ("-maxmempool=x", "number"), ("-rest", "/rest/"),
             ("-prune=550", "pruned"), ("-rpcallowip=0.0.0.0/0", "this machine"), ("-rpcallowip=::/0", "this machine"),
             ("-rpcallowip=127.0.0.0/7", "this machine"), ("-rpcallowip=x", "this machine"), ("-rpcthreads=x", "number"),
             ("-fallbackfee=x", "amount"), ("-fallbackfee=", "amount"), ("-zmqpubrawblock=tcp://10.0.0.1:1", "loopback"),
@@ -581,7 +581,7 @@ class FlagsTest(FolderCase):
             ("rpcpassword=a#b", "line 1: # in rpcpassword can be ambiguous"), ("\nrpcpassword=#b", "line 2"),
             ("regtest", "line 1 isn't NAME=VALUE"), ("-server=1", "line 1 isn't NAME=VALUE"), ("[x", "line 1 isn't NAME=VALUE"),
             ("rpcport=5", "in the section [regtest]"), ("rpcbind=127.0.0.1", "in the section [regtest]"),
-            ("blockfilterindex=1", "line 1: -blockfilterindex=1 isn't taken: there is no such index"), ("daemon=1", "-daemon=1 isn't taken"),
+            ("coinstatsindex=1", "line 1: -coinstatsindex=1 isn't taken: there is no such index"), ("daemon=1", "-daemon=1 isn't taken"),
             ("includeconf=x", "includeconf"), ("datadir=x", "datadir"), ("[regtest]\nrpcbind=0.0.0.0", "loopback"),
             ("regtest=0", "regtest alone"), ("[regtest]\nrpcport=x", "number"),
         ]  # fmt: skip

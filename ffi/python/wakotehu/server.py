@@ -20,7 +20,7 @@ from .errors import Error
 from .nodebench import SEATS, NodeBench
 from .replicabench import ReplicaBench
 from .rpc import (
-    addresses, blockchain, chain, control, descriptors, making, mining, notices, proofs, sending, settings, signing, stats,
+    addresses, blockchain, chain, control, descriptors, filters, making, mining, notices, proofs, sending, settings, signing, stats,
     template, txs, waiting,
 )  # fmt: skip
 from .rpc.auth import COOKIE_USER, Gate, remove_cookie, write_cookie
@@ -34,7 +34,7 @@ from .version import __version__
 
 #: The modules that put calls into the table.
 MODULES = (
-    addresses, blockchain, chain, control, descriptors, making, mining, notices, proofs, sending, signing, stats, template,
+    addresses, blockchain, chain, control, descriptors, filters, making, mining, notices, proofs, sending, signing, stats, template,
     txs, waiting,
 )  # fmt: skip
 #: M_MMAP_THRESHOLD of glibc's malloc.h.
@@ -154,6 +154,7 @@ def _parser() -> _Parser:
         add(f"--zmqpub{topic}hwm", metavar="N", help=argparse.SUPPRESS)
     add("--maxmempool", metavar="N", help="how many MB of transactions may wait to be mined; 300 by default")
     add("--txindex", nargs="?", const="1", default="0", help="getrawtransaction finds transactions of active blocks by their ids alone")
+    add("--blockfilterindex", nargs="?", const="1", default="0", help="getblockfilter has the basic filters of blocks (BIP 158)")
     add("--page", action="store_true", help="shows the block tree, blocks, transactions and coins in a browser, at /page of the same"
         " port, with the same password")  # fmt: skip
     add("--blocknotify", metavar="COMMAND", help="is run when another block is the active one, with its hash for %%s")
@@ -186,6 +187,10 @@ def _given(words: Sequence[str]) -> argparse.Namespace:
     given.heights = tuple(heights) if given.testactivationheight else None
     given.maxmempool = _number(parser, "300" if given.maxmempool is None else given.maxmempool, "-maxmempool", 100_000)
     given.txindex = settings.is_on(given.txindex)
+    try:
+        given.blockfilterindex = settings.has_filters(given.blockfilterindex)
+    except settings.BadSetting as error:
+        parser.error(str(error))
     given.notices = _notices(parser, given)
     return given
 
@@ -344,6 +349,7 @@ def _run(given: argparse.Namespace, folder: Optional[Folder], cookies: List[Tupl
 
         node = Node(bench, given.maxmempool * 1_000_000, given.txindex)
         node.publisher = publisher
+        node.filters = filters.FilterIndex() if given.blockfilterindex else None
         serve(node, gate, hosts, given.rpcport, ready, Page(node) if given.page else None)
         if node.broken:
             raise Error(node.broken)

@@ -99,8 +99,8 @@ def _is_right(node: Node, kept: Kept, parent: Kept, data: bytes, level: int) -> 
 
 @call("Util", "index_name")
 def getindexinfo(node: Node, index_name: Any) -> Object:
-    """The state of indices: that of -txindex."""
-    name = "txindex" if index_name is None else text(index_name)
-    if not node.has_index or name != "txindex":
-        return {}
-    return {"txindex": {"synced": True, "best_block_height": node.tip().height}}
+    """The state of indices: of -txindex and -blockfilterindex."""
+    there = {"txindex": node.has_index, "basic block filter index": node.filters is not None}
+    wanted = there if index_name is None else [text(index_name)]
+    state = {"synced": True, "best_block_height": node.tip().height}
+    return {name: state for name in wanted if there.get(name)}

@@ -15,6 +15,7 @@ from .mempool import MOST_BYTES, ServedMempool
 from .values import expect
 
 if TYPE_CHECKING:
+    from .filters import FilterIndex
     from .notices import Publisher
 
 #: How often a call that waits looks whether its client is there, in seconds.
@@ -39,6 +40,8 @@ class Node:
         self.pause = 0.0
         self.broken = ""
         self._is_making = False
+        #: The filters of blocks (-blockfilterindex).
+        self.filters: Optional["FilterIndex"] = None
         #: What tells of blocks.
         self.publisher: Optional["Publisher"] = None
         #: The categories of the log that are on.

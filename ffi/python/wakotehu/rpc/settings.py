@@ -11,6 +11,7 @@ TOPICS = ("hashblock", "hashtx", "rawblock", "rawtx", "sequence")
 #: What the file may set that the server has flags for. Those of the second are read in its section [regtest] alone.
 READ = (
     "rpcuser", "rpcpassword", "rpcauth", "rpccookiefile", "testactivationheight", "blocknotify", "maxmempool", "txindex",
+    "blockfilterindex",
     *(f"zmqpub{topic}{end}" for topic in TOPICS for end in ("", "hwm")),
 )  # fmt: skip
 READ_IN_SECTION = ("rpcport", "rpcbind")
@@ -24,6 +25,13 @@ def is_on(value: str) -> bool:
     """A truth value as bitcoind reads it."""
     found = re.match(r"\s*([+-]?[0-9]{1,9})", value)
     return not value or bool(found and int(found[1]))
+
+
+def has_filters(value: str) -> bool:
+    """Whether a value of -blockfilterindex asks for filters: as bitcoind's, which has one type of them."""
+    if value not in ("", "0", "1", "basic"):
+        raise BadSetting(f"Unknown -blockfilterindex value {value[:100]}.")
+    return value != "0"
 
 
 def _is_off(value: str) -> bool:
@@ -54,7 +62,6 @@ def _is_any(value: str) -> bool:
 
 
 Rule = Tuple[Callable[[str], bool], str]
-_NO_INDEX: Rule = _is_off, "there is no such index"
 _ONLY: Rule = _is_off, "there is regtest alone"
 
 #: Flags of bitcoind that change nothing here: the values that are taken, and why others aren't.
@@ -69,7 +76,7 @@ RULES: Dict[str, Rule] = {
     ),
     "connect": (_is_zero, "there are no peers"), "debuglogfile": (_is_zero, "nothing is logged"),
     "addnode": (lambda value: False, "there are no peers"),
-    "blockfilterindex": _NO_INDEX, "coinstatsindex": _NO_INDEX,
+    "coinstatsindex": (_is_off, "there is no such index"),
     "rest": (_is_off, "there is no /rest/"), "prune": (_is_off, "nothing is pruned"),
     "rpcallowip": (_is_loopback, "the server answers this machine alone"),
     **dict.fromkeys(("rpcthreads", "rpcworkqueue", "rpcservertimeout", "dbcache"), (_is_number, "it is a number")),
@@ -96,7 +103,7 @@ def expect(name: str, value: str) -> None:
 def positive(word: str) -> str:
     """A word of the command line; `-noNAME` is `-NAME=0`, as at bitcoind."""
     found = re.fullmatch(r"-{1,2}no([a-z]+)(?:=(.*))?", word, re.DOTALL)
-    if found is None or found[1] not in (*RULES, "txindex"):
+    if found is None or found[1] not in (*RULES, "txindex", "blockfilterindex"):
         return word
     return f"--{found[1]}={int(not is_on(found[2] or ''))}"
 

@@ -1,0 +1,112 @@
+"""Compact filters of blocks (BIP 158): beside litecoind, Bitcoin Core's code, on its own blocks, and outside values."""
+
+import random
+import unittest
+
+import peers
+from servers import Running
+from wakotehu.chainstate import show
+from wakotehu.encoding import GENESIS, GENESIS_BLOCK, Output, read_block, read_transaction, write_transaction
+from wakotehu.filters import NO_HEADER, block_filter, block_scripts, filter_header, may_have, siphash
+from wakotehu.rpc.filters import FilterIndex
+
+#: SipHash-2-4's own vectors: of the key 00 to 0f, and the messages 00, 01, .. of these lengths.
+SIPHASH = {0: 0x726FDB47DD0E0E31, 1: 0x74F839C593DC67FD, 8: 0x93F5F5799A932462, 15: 0xA129CA6149BE45E5}
+#: Testnet's genesis block in BIP 158's vectors; its transactions are regtest's.
+TESTNET = "000000000933ea01ad0ee984209779baaec3ced90fa3f408719526f8d77f4943"
+FILTER, HEADER = "019dfca8", "21584579b7eb08997773e5aeff3a7f932700042d0ed2a6129012b7d7ae81b750"
+
+
+class Filters(unittest.TestCase):
+    def test_siphash(self):
+        keys = (0x0706050403020100, 0x0F0E0D0C0B0A0908)
+        for length, value in SIPHASH.items():
+            self.assertEqual(siphash(keys, bytes(range(length))), value, length)
+
+    def test_genesis_of_testnet(self):
+        id = bytes.fromhex(TESTNET)[::-1]
+        found = block_filter(id, block_scripts(read_block(GENESIS_BLOCK).transactions, []))
+        self.assertEqual((found.hex(), show(filter_header(found, NO_HEADER))), (FILTER, HEADER))
+
+    def test_a_filter_has_its_scripts(self):
+        """Each of its scripts, and of others some 1 in 784,931."""
+        dice = random.Random(158)
+        for count in (0, 1, 2, 100, 3000):
+            id, scripts = dice.randbytes(32), {dice.randbytes(dice.randrange(1, 60)) for _ in range(count)}
+            found = block_filter(id, scripts)
+            self.assertTrue(all(may_have(id, found, {script}) for script in list(scripts)[:50]))
+            others = {dice.randbytes(61) for _ in range(300)}
+            self.assertFalse(may_have(id, found, others))
+            self.assertEqual(may_have(id, found, {*others, *list(scripts)[:1]}), bool(scripts))
+
+
+class Calls(unittest.TestCase):
+    def setUp(self):
+        self.server = Running()
+        self.addCleanup(self.server.stop)
+
+    def refused(self, *words):
+        error = self.server.call("getblockfilter", *words)
+        return error["code"], error["message"]
+
+    def test_without_the_index(self):
+        self.assertEqual(self.refused(show(GENESIS.id)), (-1, "Index is not enabled for filtertype basic"))
+
+    def test_filters_of_the_server(self):
+        """Faults in Bitcoin Core's words; headers are chained from genesis on."""
+        self.server.node.filters = FilterIndex()
+        self.assertEqual(self.refused("00" * 32, "other"), (-5, "Unknown filtertype"))
+        self.assertEqual(self.refused("00" * 32), (-5, "Block not found"))
+        hashes = self.server.call("generatetodescriptor", 5, "raw(51)")
+        before = NO_HEADER
+        for id in (show(GENESIS.id), *hashes):
+            data = bytes.fromhex(self.server.call("getblock", id, 0))
+            own = block_filter(bytes.fromhex(id)[::-1], block_scripts(read_block(data).transactions, []))
+            before = filter_header(own, before)
+        # The highest first: its header takes those of all below.
+        found = self.server.call("getblockfilter", id, "basic")
+        self.assertEqual(found, {"filter": own.hex(), "header": show(before)})
+        told = {"basic block filter index": {"synced": True, "best_block_height": 5}}
+        self.assertEqual(self.server.call("getindexinfo"), told)
+        self.assertEqual(self.server.call("getindexinfo", "txindex"), {})
+
+
+def with_outputs(raw, scripts):
+    """A transaction with outputs of these scripts in the place of its own, as digits."""
+    tx = read_transaction(bytes.fromhex(raw))
+    return write_transaction(tx._replace(outputs=[Output(1000, script) for script in scripts])).hex()
+
+
+@unittest.skipUnless(peers.IS_THERE, "litecoind isn't installed")
+class Peers(unittest.TestCase):
+    def test_filters_of_blocks_that_spend(self):
+        """Of 136 blocks, some with payments to several scripts, data and empty scripts: filter and header."""
+        dice = random.Random(7)
+        with peers.Litecoind("-blockfilterindex=1", "-acceptnonstdtxn=1") as peer:
+            for _ in range(13):
+                peer.call("generatetodescriptor", 10, "raw(51)")
+            mined = 0
+            for height in range(1, 25):
+                txid = peer.call("getblock", peer.call("getblockhash", height), 2)["tx"][0]["txid"]
+                raw = peer.call("createrawtransaction", [{"txid": txid, "vout": 0}], [{"data": "00"}])
+                scripts = [dice.choice([b"", b"\x51", b"\x51" * 9, b"\x6a\x01a", b"\x6a"]) for _ in range(dice.randrange(1, 6))]
+                # One of nothing but data is no transaction that it relays.
+                mined += not str(peer.call("sendrawtransaction", with_outputs(raw, scripts), 0)).startswith("error")
+                if height % 4 == 0:
+                    peer.call("generatetodescriptor", 1, "raw(5151)")
+            self.assertGreater(mined, 10)
+            before, outputs, spent = NO_HEADER, {}, 0
+            for height in range(peer.call("getblockcount") + 1):
+                id = peer.call("getblockhash", height)
+                txs = read_block(bytes.fromhex(peer.call("getblock", id, 0))).transactions
+                for tx in txs:
+                    outputs.update({(tx.id, number): out for number, out in enumerate(tx.outputs)})
+                taken = [outputs[it.id, it.index] for tx in txs[1:] for it in tx.inputs]
+                own = block_filter(bytes.fromhex(id)[::-1], block_scripts(txs, taken))
+                before, spent = filter_header(own, before), spent + len(taken)
+                self.assertEqual(peer.call("getblockfilter", id), {"filter": own.hex(), "header": show(before)}, height)
+            self.assertEqual((height, spent), (136, mined))
+
+
+if __name__ == "__main__":
+    unittest.main()
