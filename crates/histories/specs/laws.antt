@@ -2,6 +2,8 @@
 pub mod Coins
 pub mod Confirmations
 pub mod Heights
+pub mod Reorganisations
 pub mod Replies
+pub mod Tables
 pub mod Verdicts
 pub mod Checkpoints

@@ -1,6 +1,6 @@
 //! What holds of whole histories.
 
-ghost use Rattle.std.specs.Prelude.{◌≡◌, ◌≢◌, ◌≤◌, ◌+◌, ◌++◌, ◌↔◌, ℕ, pos, ◌≤ℤ◌, true, List, length, None, Option};
+ghost use Rattle.std.specs.Prelude.{◌≡◌, ◌≢◌, ◌≤◌, ◌+◌, ◌++◌, ◌↔◌, ℕ, pos, ◌≤ℤ◌, true, false, List, length, None, Option, Some};
 ghost use Rattle.std.specs.FinMap as coin_map;
 ghost use mathlib.Core.List.{IsPrefix};
 ghost use Rattle.logbook.specs.Pages.{Book};
@@ -14,7 +14,7 @@ ghost use Rattle.signatures.specs.Triple.{Triples};
 ghost use Rattle.rules.specs.declared.params.Params.{Params};
 ghost use Rattle.model.specs.declared.command.Command.TheVariants as command;
 ghost use Rattle.model.specs.declared.entry.Entry.{Entry};
-ghost use Rattle.model.specs.Chainstate.{chainstate};
+ghost use Rattle.model.specs.Chainstate.{chainstate, confirmations};
 ghost use Rattle.tree.specs.Branches.{Blocks, height, on};
 ghost use Rattle.model.specs.History.{Legal, state_after_entries, state_at, state_left};
 ghost use Rattle.model.specs.Learnt.{found_in, found_from, known_after};
@@ -22,11 +22,11 @@ ghost use Rattle.model.specs.Regtest.{ledger, regtest};
 ghost use Rattle.model.specs.Replay.{coins, coins_at};
 ghost use Rattle.model.specs.Settle.{active};
 ghost use Rattle.model.specs.Total.{subsidies};
-ghost use Rattle.view.specs.Origin.{Origin, known_in, machine, origin_by_need, origin_of};
+ghost use Rattle.view.specs.Origin.{Origin, known_in, machine, origin, origin_by_need, origin_of};
 ghost use Rattle.view.specs.ViewState.{IsLegal, state_after};
 ghost use Rattle.histories.specs.Checkpoints.{Checkpoint, IsCheckpointOf, IsLegalFrom, IsReached};
 ghost use Rattle.histories.specs.Checkpoints.{genesis, known_from};
-ghost use Rattle.histories.specs.Confirmations.{IsCoinOf, IsUnspentAbove};
+ghost use Rattle.histories.specs.Confirmations.{IsBelowBest, IsCoinOf, IsUnspentAbove};
 ghost use Rattle.histories.specs.Histories.{AreAnswered, commands_of, replies_of, without_verdicts};
 
 /// The signatures that a history says are valid are a set that agrees with all of its verdicts.
@@ -48,6 +48,20 @@ pub fn a_saved_history_is_legal()
     ensures { (book : Book) (params : Params) (seats : ℕ) (es : List Entry)
         → IsLegal (origin_by_need book params seats) es
         → Legal (chainstate params (found_in es).valid) seats (without_verdicts es) }
+{}
+
+/// **A table is the case in which one set agrees**: its triples, whatever the history tells. So what holds under every set
+/// that agrees holds with a table exactly if it holds under the table.
+pub fn with_a_table_one_set_agrees()
+    ensures { (o : Origin) (table valid : Triples) (es : List Entry) → o.table ≡ Some table
+        → Agrees (known_in o es) valid ↔ valid ≡ table }
+{}
+
+/// With a table a history is legal exactly if it tells no verdict, and is legal as one of the table's chainstate.
+pub fn with_a_table_a_history_is_legal_under_it()
+    ensures { (book : Book) (params : Params) (table : Triples) (seats : ℕ) (es : List Entry)
+        → IsLegal (origin book params table seats) es
+        ↔ (without_verdicts es ≡ es) × Legal (chainstate params table) seats es }
 {}
 
 /// Of two legal histories of one chainstate, of which one is asked what begins what the other is asked, the replies of the
@@ -100,6 +114,25 @@ pub fn a_coin_is_gone_only_if_it_is_spent_or_its_block_is_taken_back()
         IsCoinOf r t active made outpoint coin → other ≤ length t → on t other made ≡ true
         → IsUnspentAbove t other made outpoint
         → coin_map.get (coins_at r ledger t other) outpoint ≢ None }
+{}
+
+/// **What n confirmations are worth.** A coin that was read with n confirmations is the same coin, with its value, script, height
+/// and mark, in each later state whose active branch still has the block n - 1 below the best one of that moment, unless a block
+/// of that branch above it spends the coin. A branch that hasn't that block any more took n blocks back or more.
+pub fn a_coin_is_the_same_until_its_block_is_taken_back()
+    ensures same { (params : Params) (valid : Triples) (es later : List Entry)
+        (outpoint : OutPoint) (coin : Coin) (n made : ℕ)
+        → let m = chainstate params valid in let r = regtest params valid in
+        let s = state_after_entries m m.opening es in let t = state_after_entries m s later in
+        m.coin s outpoint ≡ Some (coin, n) → IsBelowBest r s n made
+        → on t.blocks (active r t) made ≡ true → IsUnspentAbove t.blocks (active r t) made outpoint
+        → m.coin t outpoint ≡ Some (coin, confirmations r t coin.height) }
+    ensures taken_back { (params : Params) (valid : Triples) (es later : List Entry) (n made x : ℕ)
+        → let m = chainstate params valid in let r = regtest params valid in
+        let s = state_after_entries m m.opening es in let t = state_after_entries m s later in
+        IsBelowBest r s n made → on t.blocks (active r t) made ≡ false
+        → on s.blocks (active r s) x ≡ true → on t.blocks (active r t) x ≡ true
+        → height s.blocks x + n ≤ height s.blocks (active r s) }
 {}
 
 /// **Opening from a checkpoint and the entries behind it is opening from the whole history**: a history that goes on from a

@@ -51,7 +51,7 @@ each_made tall coinbase id k (o ∷ outputs) = at (is_unspendable o.script) (eac
     at true h = h
     at false h = (refl, h)
 
-got : (m : Coins) (tx : Tx) (id : Id) (tall : ℕ) (q : OutPoint)
+pub got : (m : Coins) (tx : Tx) (id : Id) (tall : ℕ) (q : OutPoint)
     → coin_map.get (after m tx id tall) q ≡ option_or (entry_for (makes tx id tall) q) (cond (list_any (same q) (spends tx)) None (coin_map.get m q))
 unfolding after
 got m tx id tall q =
@@ -100,11 +100,11 @@ module _ (params : Params) (valid : Triples) (t : Blocks Block) (q : OutPoint) w
   at p = coins_at r ledger t p
 
   -- the branch of a block is no higher than it
-  no_higher : (x p : ℕ) → p ≤ length t → on t p x ≡ true → height t x ≤ height t p
+  pub no_higher : (x p : ℕ) → p ≤ length t → on t p x ≡ true → height t x ≤ height t p
   no_higher x p h o = climb t x (λ y. height t x ≤ height t y) (omega arith) (λ y z k up below. let e = height-parent t y (omega arith) k in omega arith) p h o
 
   -- a coin is as old as it says
-  since : (x : ℕ) (c : Coin) → c.height ≡ height t x → (p : ℕ) → p ≤ length t → on t p x ≡ true → coin_map.get (at p) q ≡ Some c → coin_map.get (at x) q ≡ Some c
+  pub since : (x : ℕ) (c : Coin) → c.height ≡ height t x → (p : ℕ) → p ≤ length t → on t p x ≡ true → coin_map.get (at p) q ≡ Some c → coin_map.get (at x) q ≡ Some c
   since x c made p h o =
       climb t x (λ y. coin_map.get (at y) q ≡ Some c → coin_map.get (at x) q ≡ Some c) (λ e. e)
       (λ y z k up below e.
