@@ -137,16 +137,33 @@ class RulesTest(Waiting):
         self.assertEqual(self.call("getblock", second)["tx"][1:], [show(large[3].id)])
 
     def test_signature_operations_of_a_block(self):
-        """20,000 at most, of which the coinbase is left 400: so of two with 10,000 one waits for the next block, and more than
-        fit no block are refused."""
+        """20,000 at most with those of the coinbase that is made: so two with 10,000 are in one block, or one waits for the
+        next, and more than fit no block are refused. A miner of a template has room for a coinbase of its own."""
         many = [self.spends(self.coins[place], to=b"\xac" * 10_000) for place in range(2)]
         for tx in many:
             self.send(tx)
-        [first] = self.mined(1)
-        self.assertEqual(len(self.call("getblock", first)["tx"]), 2)
+        self.assertEqual(len(self.call("getblocktemplate", {"rules": ["segwit"]})["transactions"]), 1)
+        [first] = self.call("generatetodescriptor", 1, "raw(ac)")
+        self.assertEqual(self.call("getblock", first)["tx"][1:], [show(many[0].id)])
         self.assertEqual(self.waiting(), {show(many[1].id)})
-        error = self.send(self.spends(self.coins[2], to=b"\xac" * 19_601))
+        whole = self.spends(self.coins[2], to=b"\xac" * 20_000)
+        self.assertEqual(self.send(whole), show(whole.id))
+        [second], [third] = (self.call("generatetodescriptor", 1, "raw(51)") for _ in range(2))
+        self.assertEqual([self.call("getblock", it)["tx"][1:] for it in (second, third)], [[show(many[1].id)], [show(whole.id)]])
+        error = self.send(self.spends(self.coins[3], to=b"\xac" * 20_001))
         self.assertEqual((error["code"], error["message"]), (-26, "bad-txns-too-many-sigops"))
+
+    def test_a_missing_input_comes_before_room(self):
+        """As in Bitcoin Core's MemPoolAccept; and so do values, and what is locked."""
+        for tx, reason in (
+            (spend(b"\1" * 32, 0, 1, b"", to=b"\xac" * 20_001), "missing-inputs"),
+            (spend(b"\1" * 32, 0, 1, b"", to=bytes(999_900)), "missing-inputs"),
+            (self.spends(self.coins[0], 51 * COIN, to=b"\xac" * 20_001), "bad-txns-in-belowout"),
+            (self.spends(self.coins[-1], to=b"\xac" * 20_001), "bad-txns-premature-spend-of-coinbase"),
+            (self.spends(self.coins[0], to=b"\xac" * 20_001), "bad-txns-too-many-sigops"),
+        ):
+            [found] = self.call("testmempoolaccept", [write_transaction(tx).hex()])
+            self.assertEqual(found["reject-reason"], reason)
 
     def test_no_more_than_a_limit(self):
         self.running.node.mempool.most = 200

@@ -204,6 +204,8 @@ class SeatsTest(Callers):
                 asked.append(above)
                 if above is None and len(left) > 7 - times:
                     self.assertIsNone(self.connected(running).call("submitblock", left.pop(0).hex()))
+                # Also where blocks wait.
+                self.assertEqual(self.connected(running).call("getblockcount"), 8 - len(left))
                 return coins(seat, above, most)
 
             with unittest.mock.patch.object(Seat, "coins", between):

@@ -12,7 +12,7 @@ from test_pure import rows
 from wakotehu import Bench, DecodeFailed, NotAccepted, NotFound, Pool, errors, mempool, read_id, show, stage
 from wakotehu.consensus import Triple
 from wakotehu.encoding import (
-    Input, Output, Transaction, block_at_front, hash160, push, read_block, read_transaction, signature_digest,
+    Input, Output, Transaction, block_at_front, coinbase, hash160, push, read_block, read_transaction, signature_digest,
     write_transaction,
 )  # fmt: skip
 
@@ -178,8 +178,11 @@ class RulesTest(Waiting):
             (Transaction(1, [Input(first, 0, b"", 0)] * 2, pay, 0), "bad-txns-inputs-duplicate", ""),
             (Transaction(1, [Input(bytes(32), LAST, b"\x51\x51", 0)], pay, 0), "coinbase", ""),
             (spends(first, sequence=0, lock=111), "non-final", ""), (spends(first, sequence=111, version=2), LOCKED, ""),
-            (spends(first, to=b"\xac" * 19_601), "bad-txns-too-many-sigops", ""),
-            (spends(first, to=bytes(999_200)), "tx-size", ""), (spends(first, to=bytes(1_000_000)), "bad-txns-oversize", ""),
+            (spends(first, to=b"\xac" * 20_001), "bad-txns-too-many-sigops", ""),
+            (spends(first, to=bytes(999_900)), "tx-size", ""), (spends(first, to=bytes(1_000_000)), "bad-txns-oversize", ""),
+            # What a transaction breaks by its coins comes first.
+            (spends(b"\1" * 32, to=b"\xac" * 20_001), MISSING, ""), (spends(b"\1" * 32, to=bytes(999_900)), MISSING, ""),
+            (spends(first, 51 * COIN, to=b"\xac" * 20_001), "bad-txns-in-belowout", "value in (50.00) < value out (51.00)"),
         ):  # fmt: skip
             with self.subTest(reason):
                 self.refused(tx, reason, more)
@@ -281,16 +284,31 @@ class RoomTest(Waiting):
         self.assertEqual(read_block(self.bench.block(first)).transactions[0].outputs, [Output(52 * COIN, b"\x51")])
 
     def test_signature_operations(self):
-        """20,000 at most, of which the coinbase is left 400, and what its script has."""
-        many = [spends(self.coins[place], to=b"\xac" * count) for place, count in enumerate((10_000, 9_601, 9_600))]
+        """20,000 at most, with those of the coinbase that is made."""
+        many = [spends(self.coins[place], to=b"\xac" * count) for place, count in enumerate((10_000, 10_001, 10_000))]
         self.add(*many)
         for to, left in ((b"\x51", 0), (b"\xac", 2)):
             ids = [it.id for place, it in enumerate(many) if place not in ((1,) if left == 0 else (1, 2))]
             self.assertEqual([entry.id for entry in self.pool.selection(to)], ids)
 
+    def test_as_much_as_a_block_may_have(self):
+        """A transaction that leaves no byte over beside a coinbase that makes no coin, and one of one byte more."""
+        more = len(write_transaction(spends(self.coins[1], to=bytes(999_000)))) - 999_000
+        room = 1_000_000 - 80 - 1 - len(write_transaction(coinbase(111, 0, b"\x6a", b"a dry run"))) - more
+        fits, sigops = spends(self.coins[1], to=bytes(room)), spends(self.coins[0], to=b"\xac" * 20_000)
+        self.refused(spends(self.coins[1], to=bytes(room + 1)), "tx-size")
+        self.add(fits)
+        self.assertEqual(self.pool.selection(bytes(10)), [])
+        [mined] = self.pool.mine()
+        self.assertEqual(len(self.bench.block(mined)), 1_000_000 - len(b"a dry run") + len(b"pool") + 4)
+        self.add(sigops)
+        self.assertEqual([entry.id for entry in self.pool.selection(b"\xac")], [])
+        [mined] = self.pool.mine()
+        self.assertEqual(read_block(self.bench.block(mined)).transactions[1].id, sigops.id)
+
     def test_a_child_of_what_is_left_out(self):
         large, many = spends(self.coins[0], to=b"\xac" * 10_000), spends(self.coins[1], 49 * COIN)
-        many = many._replace(outputs=[*many.outputs, Output(0, b"\xac" * 9_700)])
+        many = many._replace(outputs=[*many.outputs, Output(0, b"\xac" * 10_001)])
         child = spends(many.id, 49 * COIN)
         self.add(large, many, child)
         self.assertEqual([entry.id for entry in self.pool.selection()], [large.id])

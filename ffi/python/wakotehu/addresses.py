@@ -6,6 +6,11 @@ from . import arguments
 from .encoding import double_sha, push
 
 _DIGITS = "123456789ABCDEFGHJKLMNPQRSTUVWXYZabcdefghijkmnopqrstuvwxyz"
+#: Two digits at once, by their value.
+_PAIRS = [high + low for high in _DIGITS for low in _DIGITS]
+#: Ten digits are a number below this, with which Python divides faster than with longer ones.
+_TEN = 58**10
+_VALUES = {digit: value for value, digit in enumerate(_DIGITS)}
 #: An address has no more characters.
 MAX_ADDRESS = 100
 #: The first bytes of addresses, to a hash of a key and of a script.
@@ -38,11 +43,13 @@ def script_of(address: str, network: str = "regtest") -> Optional[bytes]:
 
 def data_of(text: str, most: int = MAX_ADDRESS) -> Optional[bytes]:
     """What a text in base 58 has before the four bytes of its digest, or None. Each zero byte in front is a digit 1."""
-    if len(text) > most or not text or any(digit not in _DIGITS for digit in text):
+    if len(text) > most or not text:
         return None
     number = 0
     for digit in text:
-        number = number * 58 + _DIGITS.index(digit)
+        if digit not in _VALUES:
+            return None
+        number = number * 58 + _VALUES[digit]
     data = bytes(len(text) - len(text.lstrip("1"))) + number.to_bytes((number.bit_length() + 7) // 8, "big")
     return data[:-4] if len(data) >= 4 and double_sha(data[:-4])[:4] == data[-4:] else None
 
@@ -55,8 +62,10 @@ def spelled(prefix: int, digest: bytes) -> str:
 def base58(data: bytes) -> str:
     """Bytes in base 58, with four bytes of their digest."""
     data += double_sha(data)[:4]
-    number, text = int.from_bytes(data, "big"), ""
+    number, pairs = int.from_bytes(data, "big"), []
     while number:
-        number, digit = divmod(number, 58)
-        text = _DIGITS[digit] + text
-    return "1" * (len(data) - len(data.lstrip(b"\0"))) + text
+        number, ten = divmod(number, _TEN)
+        for _ in range(5):
+            ten, pair = divmod(ten, 3364)
+            pairs.append(_PAIRS[pair])
+    return "1" * (len(data) - len(data.lstrip(b"\0"))) + "".join(reversed(pairs)).lstrip("1")

@@ -345,6 +345,10 @@ class Bench(Walks):
         coin = self.coin(id, index)
         return coin and Unspent(coin, self.best(), self.height() - coin.height + 1)
 
+    def coins_at(self, outpoints: Sequence[Tuple[bytes, int]]) -> List[Optional[Coin]]:
+        """The coins at some outpoints, or None."""
+        return [self.coin(*it) for it in outpoints]
+
     def coins(self) -> List[Tuple[bytes, int, Coin]]:
         """As `Chainstate.coins`."""
         return self.chain.coins()

@@ -31,7 +31,11 @@ def sha1(data: bytes) -> bytes:
 
 def double_sha(data: bytes) -> bytes:
     """SHA-256 of SHA-256."""
-    return hashlib.sha256(hashlib.sha256(octets(data, "data")).digest()).digest()
+    return _double(octets(data, "data"))
+
+
+def _double(data: bytes) -> bytes:
+    return hashlib.sha256(hashlib.sha256(data).digest()).digest()
 
 
 def hash160(data: bytes) -> bytes:
@@ -112,6 +116,7 @@ GENESIS_BLOCK = bytes.fromhex(
 
 
 _HEADER = struct.Struct("<i32s32sIII")
+_OUTPOINT, _NUMBER, _VALUE = struct.Struct("<32sI"), struct.Struct("<I"), struct.Struct("<q")
 
 
 class _Reader:
@@ -135,15 +140,35 @@ class _Reader:
         return first if first < 253 else self.number({253: 2, 254: 4, 255: 8}[first])
 
     def text(self) -> bytes:
-        return self.take(self.count())
+        data, begin = self.data, self.at + 1
+        length = data[begin - 1] if begin <= len(data) else 253
+        if length > 252:
+            return self.take(self.count())
+        self.at = begin + length
+        if self.at > len(data):
+            raise EncodingError("the bytes end early")
+        return data[begin : self.at]
 
     def transaction(self) -> Transaction:
         version = self.number(4, signed=True)
-        inputs = [
-            Input(self.take(32), self.number(4), self.text(), self.number(4)) for _ in range(self.count())
-        ]
-        outputs = [Output(self.number(8, signed=True), self.text()) for _ in range(self.count())]
+        try:
+            inputs = [self._input() for _ in range(self.count())]
+            outputs = [self._output() for _ in range(self.count())]
+        except struct.error:
+            raise EncodingError("the bytes end early") from None
         return Transaction(version, inputs, outputs, self.number(4))
+
+    def _input(self) -> Input:
+        id, index = _OUTPOINT.unpack_from(self.data, self.at)
+        self.at += 36
+        script = self.text()
+        self.at += 4
+        return Input(id, index, script, *_NUMBER.unpack_from(self.data, self.at - 4))
+
+    def _output(self) -> Output:
+        [value] = _VALUE.unpack_from(self.data, self.at)
+        self.at += 8
+        return Output(value, self.text())
 
     def skip_transaction(self) -> None:
         """Goes past a transaction where `transaction` reads one, without making it, which is some times as fast."""
@@ -218,8 +243,58 @@ def block_at_front(data: bytes) -> Spelled:
         reader.skip_transaction()
         places.append((begin, reader.at))
     # Counts that aren't spelled shortest are read here and in no chainstate: only there the bytes aren't the id's.
-    ids = [double_sha(reader.data[begin:end]) for begin, end in places]
+    ids = [_double(reader.data[begin:end]) for begin, end in places]
     return Spelled(reader.data[: reader.at], header, ids, places)
+
+
+class Outline(NamedTuple):
+    """Of a transaction how many bytes it has, the outpoints that it spends, in 36 bytes each, of each output the value, and how many
+    bytes its script has with their count, and the sum of these values."""
+
+    size: int
+    spends: List[bytes]
+    outputs: List[Tuple[int, int]]
+    value: int
+
+
+def outline(data: bytes) -> Outline:
+    """The outline of a transaction of a kept block: bytes that are none aren't refused."""
+    return _outline(data, 0)
+
+
+def outlines(data: bytes) -> List[Outline]:
+    """The outlines of all transactions of a kept block."""
+    found = []
+    count, at = _counted(data, 80)
+    for _ in range(count):
+        found.append(_outline(data, at))
+        at += found[-1].size
+    return found
+
+
+def _outline(data: bytes, begin: int) -> Outline:
+    spends, outputs, sum = [], [], 0
+    count, at = _counted(data, begin + 4)
+    for _ in range(count):
+        spends.append(data[at : at + 36])
+        length, at = (data[at + 36], at + 37) if data[at + 36] < 253 else _counted(data, at + 36)
+        at += length + 4
+    count, at = _counted(data, at)
+    for _ in range(count):
+        [value] = _VALUE.unpack_from(data, at)
+        start = at + 8
+        length, at = (data[start], at + 9) if data[start] < 253 else _counted(data, start)
+        at += length
+        outputs.append((value, at - start))
+        sum += value
+    return Outline(at + 4 - begin, spends, outputs, sum)
+
+
+def _counted(data: bytes, at: int) -> Tuple[int, int]:
+    """The count at a place, and the place behind it."""
+    first = data[at]
+    wide = {253: 2, 254: 4, 255: 8}.get(first, 0)
+    return int.from_bytes(data[at + 1 : at + 1 + wide], "little") if wide else first, at + 1 + wide
 
 
 # ---- writing
@@ -247,13 +322,13 @@ def _text(data: bytes, name: str) -> bytes:
 
 
 def _spelled_input(own: Input) -> bytes:
-    begins = id_of(own.id, "tx.inputs.id") + struct.pack("<I", number(own.index, "tx.inputs.index"))
-    sequence = struct.pack("<I", number(own.sequence, "tx.inputs.sequence"))
+    begins = _OUTPOINT.pack(id_of(own.id, "tx.inputs.id"), number(own.index, "tx.inputs.index"))
+    sequence = _NUMBER.pack(number(own.sequence, "tx.inputs.sequence"))
     return begins + _text(own.script, "tx.inputs.script") + sequence
 
 
 def _spelled_output(own: Output) -> bytes:
-    return struct.pack("<q", signed(own.value, "tx.outputs.value", 64)) + _text(own.script, "tx.outputs.script")
+    return _VALUE.pack(signed(own.value, "tx.outputs.value", 64)) + _text(own.script, "tx.outputs.script")
 
 
 def write_transaction(tx: Transaction) -> bytes:
@@ -263,7 +338,18 @@ def write_transaction(tx: Transaction) -> bytes:
     outputs = list(map(_spelled_output, sequence_of(tx.outputs, Output, "tx.outputs")))
     ends = signed(tx.version, "tx.version"), number(tx.lock_time, "tx.lock_time")
     parts = [struct.pack("<i", ends[0]), _count(len(inputs)), *inputs, _count(len(outputs)), *outputs]
-    return b"".join([*parts, struct.pack("<I", ends[1])])
+    return b"".join([*parts, _NUMBER.pack(ends[1])])
+
+
+def size_of(tx: Transaction) -> int:
+    """How many bytes `write_transaction` would make."""
+    scripts = [len(it.script) for it in tx.inputs] + [len(it.script) for it in tx.outputs]
+    counts = [len(tx.inputs), len(tx.outputs), *scripts]
+    return 8 + 40 * len(tx.inputs) + 8 * len(tx.outputs) + sum(scripts) + sum(map(_size_of_count, counts))
+
+
+def _size_of_count(count: int) -> int:
+    return 1 if count < 253 else 3 if count < 2**16 else 5 if count < 2**32 else 9
 
 
 def write_header(header: Header) -> bytes:

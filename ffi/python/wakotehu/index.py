@@ -102,6 +102,13 @@ class Index:
         found = self.blocks.get(id)
         return found is not None and self.at(found.height) == id
 
+    def is_above(self, id: bytes, other: bytes) -> bool:
+        """Whether a kept block is on the branch of another one, which may be itself."""
+        low, at = self.blocks[other].height, self.blocks[id]
+        while at.height > low and not self.is_active(at.id):
+            at = self.blocks[at.header.parent]
+        return at.id == other or (at.height > low and self.is_active(other))
+
     def at(self, height: int) -> Optional[bytes]:
         """The active block of a height, or None."""
         return self.active[height] if 0 <= height < len(self.active) else None
@@ -163,10 +170,15 @@ class Walks:
 
     def transaction(self, id: bytes) -> Optional[Transaction]:
         """A transaction of a kept block, or None."""
+        data = self.spelled(id)
+        return None if data is None else read_transaction(data)
+
+    def spelled(self, id: bytes) -> Optional[bytes]:
+        """The bytes of a transaction of a kept block, or None."""
         id = id_of(id)
         if id not in self.index.transactions:
             return None
         block, begin, end = self.index.transactions[id]
         data = self.block(block)
         assert data is not None, "blocks of the index are kept"
-        return read_transaction(data[begin:end])
+        return data[begin:end]

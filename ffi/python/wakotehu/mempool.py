@@ -6,23 +6,30 @@ before it, is judged by a dry run, so nothing of it is left behind, and no rule 
 be mined before it, and no rule looks at its block's height, that is mined on a stage, and the transaction alone is judged."""
 
 from contextlib import contextmanager
+from itertools import takewhile
 from typing import Dict, Iterable, Iterator, List, NamedTuple, Optional, Protocol, Sequence, Set, Tuple
 
 from . import consensus
 from .chainstate import Coin, Reply
-from .encoding import Spelled, Transaction, block_at_front, read_transaction
+from .coinset import CoinSet
+from .encoding import Spelled, Transaction, block_at_front, read_transaction, write_transaction
 from .errors import DecodeFailed, NotAccepted
-from .index import Index, Kept, Unspent
-from .stage import Stage, next_block
+from .index import Index, Kept
+from .stage import Stage, next_block, next_coinbase
 
 Outpoint = Tuple[bytes, int]
 #: The most bytes of all that wait, where nobody says it: Bitcoin Core's -maxmempool.
 MOST_BYTES = 300_000_000
-#: The most bytes and signature operations of a block, and those that its header and its coinbase may take.
-MAX_BLOCK, MAX_SIGOPS = 1_000_000, 20_000
+#: The most bytes and signature operations of a block, how many bytes its header has, and what a coinbase may take that a miner
+#: makes, as Bitcoin Core reserves it.
+MAX_BLOCK, MAX_SIGOPS, HEADER = 1_000_000, 20_000, 80
 HEAD_SIZE, HEAD_SIGOPS = 1_000, 400
 #: How many blocks above a coinbase its coins may be spent.
 MATURITY = 100
+#: The coins of so many outpoints are asked for at once.
+PART = 1000
+#: What the coinbase of a dry run has.
+_TAG = b"a dry run"
 #: Where more than these have to be mined before a transaction, it is judged on a stage. Bitcoin Core lets no more wait.
 DEEP = 24
 #: An input with a higher sequence number doesn't signal that it may be replaced (BIP 125).
@@ -57,19 +64,25 @@ class Entry(NamedTuple):
         return len(self.data)
 
 
-class _Room:
-    """What a block has room for beside its header and its coinbase, which pays to a script."""
+class Room:
+    """What a block has room for beside its header and its coinbase, which takes so many bytes and signature operations."""
 
-    def __init__(self, script: bytes = b"") -> None:
-        self.size = MAX_BLOCK - HEAD_SIZE - len(script)
-        self.sigops = MAX_SIGOPS - HEAD_SIGOPS - consensus.script(script).plain
+    def __init__(self, size: int = HEAD_SIZE - HEADER, sigops: int = HEAD_SIGOPS) -> None:
+        self.size, self.sigops, self.count = MAX_BLOCK - HEADER - size, MAX_SIGOPS - sigops, 1
+
+    @classmethod
+    def beside(cls, made: Transaction) -> "Room":
+        """That beside a coinbase."""
+        data = write_transaction(made)
+        return cls(len(data), consensus.transaction(data).sigops)
 
     def take(self, *entries: Entry) -> bool:
-        """Whether there is room for more, which is taken then."""
+        """Whether there is room for more, which is taken then. How many there are is spelled in one byte, or in three."""
         size, sigops = sum(len(entry.data) for entry in entries), sum(entry.sigops for entry in entries)
-        if size > self.size or sigops > self.sigops:
+        count = self.count + len(entries)
+        if size + (1 if count < 253 else 3) > self.size or sigops > self.sigops:
             return False
-        self.size, self.sigops = self.size - size, self.sigops - sigops
+        self.size, self.sigops, self.count = self.size - size, self.sigops - sigops, count
         return True
 
 
@@ -87,6 +100,12 @@ class Waiting:
         self._last = 0
         #: The one that was put last, behind those that have to be mined before it: the next one often hangs on it.
         self._line: List[Entry] = []
+
+    def copy(self) -> "Waiting":
+        """Another of the same, which stays as it is."""
+        found = Waiting()
+        found.entries, found.spenders, found.bytes = dict(self.entries), dict(self.spenders), self.bytes
+        return found
 
     def put(self, entry: Entry) -> None:
         """Puts one behind all others."""
@@ -161,10 +180,9 @@ class Waiting:
             spends.sequence <= REPLACEABLE for it in [id, *self.ancestors(id)] for spends in self.entries[it].tx.inputs
         )
 
-    def selection(self, script: bytes) -> List[Entry]:
-        """What a block that pays to a script has room for, in order; what hangs on one that is left out is left out."""
+    def selection(self, room: Room) -> List[Entry]:
+        """What there is room for, in order; what hangs on one that is left out is left out."""
         found: Dict[bytes, Entry] = {}
-        room = _Room(script)
         for entry in self.entries.values():
             if all(it in found for it in self.parents(entry.id)) and room.take(entry):
                 found[entry.id] = entry
@@ -182,7 +200,7 @@ class Chain(Protocol):
 
     def judge_spelled(self, spelled: Spelled, now: int) -> Reply: ...
 
-    def unspent(self, id: bytes, index: int) -> Optional[Unspent]: ...
+    def coins_at(self, outpoints: Sequence[Outpoint]) -> List[Optional[Coin]]: ...
 
     def block(self, id: bytes) -> Optional[bytes]: ...
 
@@ -313,6 +331,7 @@ class Mempool(Waiting):
         try:
             for data in rows:
                 entries.append(self._weighed(data, among))
+                self._expect_bytes(entries[-1], among)
                 among.put(entries[-1])
             if self._is_refused(among.with_ancestors(*entries)) is None:
                 return True
@@ -324,12 +343,12 @@ class Mempool(Waiting):
 
     # ---- what comes
 
-    def judge(self, data: bytes) -> Entry:
-        """What a transaction would be that is sent now; `NotAccepted` where it may not wait."""
+    def judge(self, data: bytes, tx: Optional[Transaction] = None) -> Entry:
+        """What a transaction, which may be read already, would be that is sent now; `NotAccepted` where it may not wait."""
         while True:
             moves = self._moves
             try:
-                found = self._judged(data, self)
+                found = self._judged(data, self, tx)
             except NotAccepted:
                 if self._moves == moves:
                     raise
@@ -343,24 +362,30 @@ class Mempool(Waiting):
         self.put(entry)
         self.told(b"A", entry.id, entry.data)
 
-    def _judged(self, data: bytes, among: Waiting) -> Entry:
+    def _judged(self, data: bytes, among: Waiting, tx: Optional[Transaction] = None) -> Entry:
         """What a transaction would be among others; `NotAccepted` where the next block may not have it behind them."""
-        entry = self._weighed(data, among)
+        entry = self._weighed(data, among, tx)
         block = among.with_ancestors(entry)
         is_deep = len(block) > DEEP + 1 and self._may_come_later(entry, among)
         reply = self._is_refused_on_stage(block) if is_deep else self._is_refused(block)
         if reply is not None:
             raise self._not_accepted(reply, entry, among)
+        self._expect_bytes(entry, among)
         return entry
 
-    def _weighed(self, data: bytes, among: Waiting) -> Entry:
+    def _expect_bytes(self, entry: Entry, among: Waiting) -> None:
+        """That one more may wait."""
+        if among.bytes + entry.size > self.most:
+            raise NotAccepted("mempool full")
+
+    def _weighed(self, data: bytes, among: Waiting, read: Optional[Transaction] = None) -> Entry:
         """A transaction with what its coins make of it, in so far as they are there; what it breaks by itself, and by what waits,
         is refused, in Bitcoin Core's order."""
         tip = self.tip()
         with self.others():
             try:
                 own = consensus.transaction(data)
-                tx = read_transaction(data)
+                tx = read or read_transaction(data)
             except (consensus.Refused, ValueError):
                 raise DecodeFailed("the bytes are no transaction") from None
             is_final = not own.reason and consensus.is_final(data, tip.height + 1, tip.median)
@@ -372,31 +397,44 @@ class Mempool(Waiting):
             raise NotAccepted("txn-already-in-mempool")
         if any((it.id, it.index) in among.spenders for it in tx.inputs):
             raise NotAccepted("txn-mempool-conflict")
-        if among.bytes + len(data) > self.most:
-            raise NotAccepted("mempool full")
         coins = self._coins(tx, among)
-        fee = sum(coin.value for coin in coins if coin) - sum(out.value for out in tx.outputs)
-        inner = sum(consensus.p2sh_sigops(it.script, coin.script) for it, coin in zip(tx.inputs, coins) if coin)
+        if len(coins) < len(tx.inputs):
+            is_known = own.id in self.bench.index.transactions and self.has_coin(own.id, len(tx.outputs))
+            raise NotAccepted("txn-already-known" if is_known else "bad-txns-inputs-missingorspent")
+        with self.others():
+            fee = sum(coin.value for coin in coins) - sum(out.value for out in tx.outputs)
+            inner = sum(consensus.p2sh_sigops(it.script, coin.script) for it, coin in zip(tx.inputs, coins))
         return Entry(own.id, tx, data, fee, own.sigops + inner, self.now(), tip.height, False)
 
-    def _coins(self, tx: Transaction, among: Waiting) -> List[Optional[Coin]]:
-        """The coins that a transaction spends, of what waits and of the active branch; None for one that isn't there."""
-        found = []
-        for spends in tx.inputs:
-            coin = among.coin(spends.id, spends.index)
-            unspent = None if coin else self.bench.unspent(spends.id, spends.index)
-            found.append(unspent.coin if unspent else coin)
+    def _coins(self, tx: Transaction, among: Waiting) -> List[Coin]:
+        """The coins that a transaction spends, of what waits and of the active branch, up to the first that isn't there. They are
+        asked for in parts, so that little is asked where one is missing."""
+        found: List[Coin] = []
+        while len(found) < len(tx.inputs):
+            part = [(it.id, it.index) for it in tx.inputs[len(found) : 16 + 9 * len(found)]]
+            coins = dict(zip(part, (among.coin(*it) for it in part)))
+            others = [it for it in part if coins[it] is None]
+            coins.update(zip(others, self.bench.coins_at(others) if others else ()))
+            there = list(takewhile(lambda coin: coin is not None, (coins[it] for it in part)))
+            found += [coin for coin in there if coin is not None]
+            if len(there) < len(part):
+                break
         return found
+
+    def has_coin(self, id: bytes, count: int) -> bool:
+        """Whether one of so many outputs of a transaction is a coin of the active branch."""
+        parts = ([(id, at) for at in range(begin, min(begin + PART, count))] for begin in range(0, count, PART))
+        return any(coin is not None for part in parts for coin in self.bench.coins_at(part))
 
     def _is_refused(self, entries: Sequence[Entry]) -> Optional[Reply]:
         """What the next block would be answered that has these; None where it would be accepted."""
-        if not _Room().take(*entries):
-            return _NO_ROOM
         tip = self.tip()
+        if not Room.beside(next_coinbase(tip.height + 1, _TAG)).take(*entries):
+            return _NO_ROOM
         # The least time that it may have: what is final then is final later.
         when = min(tip.median + 1, 0xFFFFFFFF)
         with self.others():
-            block = next_block(tip.id, tip.height + 1, when, entries, b"a dry run")
+            block = next_block(tip.id, tip.height + 1, when, entries, _TAG)
         reply = self.bench.judge_spelled(block, when)
         if reply.reply == "tree-full":
             reply.check()
@@ -406,11 +444,12 @@ class Mempool(Waiting):
         """Whether each later block may have a transaction that is final where the next one may: it spends no coinbase, it has no
         relative lock (BIP 68), and no soft fork is to come."""
         coins, locks = self._coins(entry.tx, among), [it.sequence >> 31 == 0 for it in entry.tx.inputs]
-        return all(self._forks) and not any(locks) and all(coin is not None and not coin.coinbase for coin in coins)
+        is_there = len(coins) == len(entry.tx.inputs)
+        return all(self._forks) and not any(locks) and is_there and not any(coin.coinbase for coin in coins)
 
     def _is_refused_on_stage(self, entries: Sequence[Entry]) -> Optional[Reply]:
         """The same for one that may come later, the last of these, behind blocks of the others."""
-        if not _Room().take(*entries):
+        if not Room.beside(next_coinbase(self.tip().height + 1, _TAG)).take(*entries):
             return _NO_ROOM
         moves, reply = self._moves, None
         stage = self._stage or self.stage()
@@ -425,14 +464,9 @@ class Mempool(Waiting):
 
     def _not_accepted(self, reply: Reply, entry: Entry, among: Waiting) -> NotAccepted:
         """Why a transaction isn't accepted, by what a block was answered that has it; as Bitcoin Core says it."""
-        if reply is _NO_ROOM:
-            if _Room().take(entry):
-                return NotAccepted("too-long-mempool-chain", "no block has room for it and what it needs")
-            if entry.size <= MAX_BLOCK - HEAD_SIZE:
-                return NotAccepted("bad-txns-too-many-sigops")
-            return NotAccepted("tx-size" if entry.size <= MAX_BLOCK else "bad-txns-oversize")
-        reason = reply.reason or reply.reply
-        more, coins = "", [coin for coin in self._coins(entry.tx, among) if coin]
+        coins = self._coins(entry.tx, among)
+        reason = self._no_room(entry, coins) if reply is _NO_ROOM else reply.reason or reply.reply
+        more = "no block has room for it and what it needs" if reason == "too-long-mempool-chain" else ""
         if reason == "bad-txns-in-belowout":
             spent, paid = sum(it.value for it in coins), sum(it.value for it in entry.tx.outputs)
             more = f"value in ({_money(spent)}) < value out ({_money(paid)})"
@@ -441,6 +475,22 @@ class Mempool(Waiting):
             more = f"tried to spend coinbase at depth {next((it for it in deep if it < MATURITY), 0)}"
         failure = self._failure(reply.input, entry, among) if reason == "blk-bad-inputs" else ""
         return NotAccepted(_WORDS.get(reason, reason) + failure, more, reply)
+
+    def _no_room(self, entry: Entry, coins: Sequence[Coin]) -> str:
+        """Why a transaction may not wait that no block has room for, or not with what it needs: what it breaks by its coins comes
+        first."""
+        height = self.tip().height + 1
+        with self.others():
+            with CoinSet([(it.id, it.index, coin) for it, coin in zip(entry.tx.inputs, coins)]) as own:
+                found = own.check_tx_inputs(entry.data, height)
+            room = Room.beside(next_coinbase(height, _TAG))
+        if isinstance(found, str):
+            return found
+        if room.take(entry):
+            return "too-long-mempool-chain"
+        if entry.size < room.size:
+            return "bad-txns-too-many-sigops"
+        return "tx-size" if entry.size <= MAX_BLOCK else "bad-txns-oversize"
 
     def _failure(self, input: int, entry: Entry, among: Waiting) -> str:
         """Why an input may not spend its script, as Bitcoin Core adds it; "" where it may: then another transaction's may not."""

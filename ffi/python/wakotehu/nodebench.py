@@ -72,6 +72,8 @@ class NodeBench(Walks):
         self.loaded = 0
         self._made = 0
         self._under_way = 0
+        #: How many threads list all coins, for which commands wait.
+        self._listing = 0
         self._broken: Optional[errors.Error] = None
         #: Is told of each move of the active branch.
         self.moved: Callable[[Move], None] = lambda move: None
@@ -241,6 +243,8 @@ class NodeBench(Walks):
         self, ask: Callable[[Seat], Stamped[Reply]], take_up: Callable[[Reply], None], spelled: Optional[Spelled] = None
     ) -> Reply:
         """Has a command taken as a step, a submission or a mark, and takes it up in its turn."""
+        while self._listing:
+            self.turn.wait()
         self._under_way += 1
         try:
             if self.known is not None:
@@ -392,19 +396,38 @@ class NodeBench(Walks):
                 value, script, height, coinbase, confirmations = found.value
                 return Unspent(Coin(value, script, height, coinbase), best.value, confirmations)
 
+    def coins_at(self, outpoints: Sequence[Tuple[bytes, int]]) -> List[Optional[Coin]]:
+        """As `Bench.coins_at`. Where one isn't there, it is answered when the active branch is known as it was then."""
+
+        def ask(seat: Seat) -> Stamped[List[Optional[Coin]]]:
+            answers = seat.gettxouts(outpoints)
+            coins = [None if it.value is None else Coin(*it.value[:4]) for it in answers]
+            return Stamped(answers[-1].at, coins)
+
+        if not outpoints:
+            return []
+        found = self._read(ask)
+        if None in found.value:
+            self._wait_until_followed(found.at)
+        return found.value
+
     def coins(self) -> Tuple[bytes, Coins]:
         """The active block's id, and all coins by rising outpoints, of one state. They come in parts: where a command
-        comes between these they are read again; the third time other threads wait."""
+        comes between these they are read again; the third time commands wait, and reads don't."""
         for _ in range(2):
             best = self._read(Seat.getbestblockhash)
             found = self._all_coins(self._asked)
             if not self._commands(best.at + 1, found.at):
                 self._wait_for(best.at)
                 return best.value, found.value
-        self.settle()
-        seat = self.node.seat(self._number())
-        seat.told(self.node.seat(self._newest))
-        return seat.getbestblockhash().value, self._all_coins(lambda ask: ask(seat)).value
+        self._listing += 1
+        try:
+            self.settle()
+            best = self._read(Seat.getbestblockhash)
+            return best.value, self._all_coins(self._asked).value
+        finally:
+            self._listing -= 1
+            self.turn.notify_all()
 
     @staticmethod
     def _all_coins(asked: Callable[[Callable[[Seat], Stamped[Coins]]], Stamped[Coins]]) -> Stamped[Coins]:

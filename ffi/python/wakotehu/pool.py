@@ -8,9 +8,9 @@ from .arguments import id_of, instance, number, octets, text
 from .bench import Bench
 from .chainstate import Coin
 from .consensus import Table, Triple
-from .encoding import coinbase, mine_spelled, subsidy, write_transaction
+from .encoding import Transaction, coinbase, mine_spelled, subsidy, write_transaction
 from .errors import NotFound, TooMany
-from .mempool import MOST_BYTES, Entry, Mempool
+from .mempool import MOST_BYTES, Entry, Mempool, Room
 from .stage import Stage
 
 #: The script 51, which anyone spends: to it pay blocks where nothing else is said.
@@ -138,14 +138,14 @@ class Pool:
 
     def selection(self, to: Union[bytes, str] = ANYONE) -> List[Entry]:
         """What a block that pays to a script or an address has room for, in order."""
-        return self._now().selection(_script(to))
+        all, script = self._now(), _script(to)
+        return all.selection(Room.beside(_made(all.tip().height + 1, 0, script, 0)))
 
     def template(self, to: Union[bytes, str] = ANYONE) -> bytes:
         """The block that `mine` would submit."""
-        script, tip = _script(to), self._now().tip()
-        chosen, height = self._all.selection(script), tip.height + 1
-        paid = subsidy(height) + sum(entry.fee for entry in chosen)
-        made = coinbase(height, paid, script, b"pool" + self.bench.fresh().to_bytes(4, "little"))
+        chosen, tip = self.selection(to), self._all.tip()
+        fees = sum(entry.fee for entry in chosen)
+        made = _made(tip.height + 1, fees, _script(to), self.bench.fresh())
         data = [write_transaction(made), *(entry.data for entry in chosen)]
         return mine_spelled(tip.id, tip.header.time + 1, data).data
 
@@ -158,6 +158,11 @@ class Pool:
             found.append(self.bench.best())
         self._now()
         return found
+
+
+def _made(height: int, fees: int, script: bytes, number: int) -> Transaction:
+    """The coinbase of a block, which takes the fees."""
+    return coinbase(height, subsidy(height) + fees, script, b"pool" + number.to_bytes(4, "little"))
 
 
 def _script(to: Union[bytes, str]) -> bytes:

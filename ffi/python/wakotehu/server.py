@@ -8,6 +8,7 @@ or with those of a table.
 import argparse
 import contextlib
 import ctypes
+import gc
 import os
 import signal
 import sys
@@ -304,6 +305,13 @@ def _give_memory_back() -> None:
         pass  # Another library of C.
 
 
+def _collect_seldom() -> None:
+    """Has Python look for cycles among objects seldom: next to none are made here, and answers of many objects would each have
+    all others looked through, while every thread waits."""
+    gc.freeze()
+    gc.set_threshold(100_000, 50, 100)
+
+
 @contextlib.contextmanager
 def _held() -> Iterator[None]:
     """An interrupt comes behind what is done here, and not amid it."""
@@ -347,6 +355,7 @@ def _run(given: argparse.Namespace, folder: Optional[Folder], cookies: List[Tupl
             if given.page:
                 print(f"the page is http://127.0.0.1:{port}{PATH}", flush=True)
 
+        _collect_seldom()
         node = Node(bench, given.maxmempool * 1_000_000, given.txindex)
         node.publisher = publisher
         node.filters = filters.FilterIndex() if given.blockfilterindex else None

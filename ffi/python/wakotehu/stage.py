@@ -4,7 +4,7 @@ for each that comes."""
 from typing import Callable, Dict, List, Optional, Protocol, Sequence, Set
 
 from .chainstate import Chainstate, Reply
-from .encoding import GENESIS, Spelled, coinbase, mine_spelled, read_header, write_transaction
+from .encoding import GENESIS, Spelled, Transaction, coinbase, mine_spelled, read_header, write_transaction
 from .errors import Wants
 
 #: Says of the lines of signatures which are valid.
@@ -23,9 +23,14 @@ class Spelt(Protocol):
     def data(self) -> bytes: ...
 
 
+def next_coinbase(height: int, tag: bytes) -> Transaction:
+    """A coinbase that makes no coin."""
+    return coinbase(height, 0, b"\x6a", tag)
+
+
 def next_block(parent: bytes, height: int, when: int, transactions: Sequence[Spelt], tag: bytes) -> Spelled:
-    """A block of some transactions, whose coinbase makes no coin."""
-    made = coinbase(height, 0, b"\x6a", tag)
+    """A block of some transactions behind `next_coinbase`."""
+    made = next_coinbase(height, tag)
     data = [write_transaction(made), *(tx.data for tx in transactions)]
     return mine_spelled(parent, when, data, ids=[made.id, *(tx.id for tx in transactions)])
 

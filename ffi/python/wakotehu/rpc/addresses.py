@@ -13,7 +13,8 @@ GROUP = "Util"
 def validateaddress(node: Node, address: Any) -> Object:
     """Whether an address is one of regtest without witnesses, and the script that it pays to."""
     given = text(address)
-    script = address_script(given)
+    with node.others():
+        script = address_script(given)
     if script is None:
         return {"isvalid": False}
     return {"isvalid": True, "address": given.strip(), "scriptPubKey": script.hex(), "isscript": len(script) == 23,

@@ -1,15 +1,16 @@
 """Calls that read and mark the chain."""
 
 import time
-from typing import Any, Callable, Dict, List, Optional
+from typing import Any, Callable, Dict, List, Optional, Set
 
 from ..chainstate import show
-from ..encoding import double_sha, read_block, write_header
+from ..encoding import block_at_front, double_sha, read_transaction, write_header
 from ..index import Kept, Unspent
 from ..nodebench import Coins
 from .errors import INVALID_ADDRESS_OR_KEY, INVALID_PARAMETER, MISC_ERROR, RpcError
 from .node import Node, call
-from .scripts import checksum, compact, descriptor_script, shown
+from .checksums import checksum
+from .scripts import compact, descriptor_script, shown
 from .txs import transaction_fields
 from .values import Amount, Object, boolean, digits, integer, is_number, shortened, text
 
@@ -93,10 +94,8 @@ def getblock(node: Node, blockhash: Any, verbosity: Any) -> Any:
         return data.hex()
     fields = header_fields(node, kept)
     with node.others():
-        txs = read_block(data).transactions
-    spent = node.spent(txs) if level > 1 else {}
-    with node.others():
-        found = [transaction_fields(tx, spent) if level > 1 else show(tx.id) for tx in txs]
+        found: List[Any] = []
+        found += _transactions(node, data) if level > 1 else (id[::-1].hex() for id in block_at_front(data).ids)
     # In Bitcoin Core's order.
     sizes = {"strippedsize": len(data), "size": len(data), "weight": 4 * len(data)}
     begin, middle = (
@@ -104,6 +103,14 @@ def getblock(node: Node, blockhash: Any, verbosity: Any) -> Any:
         for names in (("hash", "confirmations"), ("height", "version", "versionHex", "merkleroot"))
     )
     return {**begin, **sizes, **middle, "tx": found, **fields}
+
+
+def _transactions(node: Node, data: bytes) -> List[Object]:
+    """All transactions of a kept block, shown."""
+    block = block_at_front(data)
+    spelled = [data[begin:end] for begin, end in block.places]
+    spent = node.spent(dict(zip(block.ids, map(read_transaction, spelled))))
+    return [transaction_fields(tx, spent) for tx in spelled]
 
 
 @call(GROUP)
@@ -151,7 +158,7 @@ def gettxout(node: Node, txid: Any, n: Any, include_mempool: Any) -> Optional[Ob
     """An output that isn't spent, or null; neither by what waits to be mined, where include_mempool isn't false."""
     id, index = digits(txid, "txid"), integer(n)
     if include_mempool is None or boolean(include_mempool):
-        with node.mempool.used():
+        with node.mempool.read():
             waiting, is_spent = node.mempool.coin(id, index), (id, index) in node.mempool.spenders
         if is_spent:
             return None
@@ -305,6 +312,8 @@ def _described(given: Any) -> str:
 
 def _expect_range(given: Any) -> None:
     """As Bitcoin Core's `ParseDescriptorRange`."""
+    if type(given) is int and 0 <= given < 1_000_000:
+        return
     both = given if isinstance(given, list) else [0, given]
     if len(both) != 2 or not all(map(is_number, both)):
         raise RpcError(INVALID_PARAMETER, "Range must be specified as end or as [begin,end]")
@@ -330,14 +339,24 @@ def scantxoutset(node: Node, action: Any, scanobjects: Any) -> Any:
         raise RpcError(INVALID_PARAMETER, "Invalid command")
     if scanobjects is None:
         raise RpcError(MISC_ERROR, "scanobjects argument is required for the start action")
-    wanted: Dict[bytes, str] = {}
-    for described in scanobjects:
-        it = _described(described)
-        wanted.setdefault(descriptor_script(it), it.partition("#")[0])
+    with node.others():
+        wanted = _wanted(scanobjects)
     best, coins = node.bench.coins()
     tip = node.kept(best)
     with node.others():
         return _scanned(tip, coins, wanted)
+
+
+def _wanted(scanobjects: List[Any]) -> Dict[bytes, str]:
+    """The scripts to scan for, each with the first descriptor that names it."""
+    found: Dict[bytes, str] = {}
+    known: Set[str] = set()
+    for given in scanobjects:
+        described = _described(given)
+        if described not in known:
+            known.add(described)
+            found.setdefault(descriptor_script(described), described.partition("#")[0])
+    return found
 
 
 def _scanned(tip: Kept, coins: Coins, wanted: Dict[bytes, str]) -> Object:

@@ -1,7 +1,7 @@
 """Calls about the server itself, and about peers, of which there are none."""
 
 import time
-from typing import Any, Dict, List
+from typing import Any, Dict, List, Optional, Set, Tuple
 
 from ..encoding import hash160
 from ..version import __version__
@@ -69,12 +69,28 @@ CATEGORIES = (
 def logging(node: Node, include: Any, exclude: Any) -> Object:
     """The categories of the log, and which of them are on. They are remembered; nothing is logged."""
     for given, is_on in ((include, True), (exclude, False)):
-        for name in given if isinstance(given, list) else ():
-            found = {*CATEGORIES} if text(name) in ("all", "1", "") else {name} - {"none", "0"}
-            if not found <= {*CATEGORIES}:
-                raise RpcError(INVALID_PARAMETER, f"unknown logging category {name[:100]}")
-            node.logged = node.logged | found if is_on else node.logged - found
+        with node.others():
+            found, fault = _categories(given if isinstance(given, list) else [])
+        node.logged = node.logged | found if is_on else node.logged - found
+        if fault is not None:
+            raise fault
     return {name: name in node.logged for name in CATEGORIES}
+
+
+def _categories(names: List[Any]) -> Tuple[Set[str], Optional[RpcError]]:
+    """The categories of some names, up to the first that names none, and what is said of that."""
+    found: Set[str] = set()
+    try:
+        for name in names:
+            if text(name) in ("all", "1", ""):
+                found = {*CATEGORIES}
+            elif name in CATEGORIES:
+                found.add(name)
+            elif name not in ("none", "0"):
+                raise RpcError(INVALID_PARAMETER, f"unknown logging category {name[:100]}")
+    except RpcError as fault:
+        return found, fault
+    return found, None
 
 
 _ECHOED = [f"arg{number}" for number in range(10)]

@@ -1,15 +1,17 @@
 """getdescriptorinfo: descriptors as Bitcoin Core 0.21 reads them (doc/descriptors.md)."""
 
 import re
+from itertools import islice
 from typing import Any, List, NamedTuple, Optional, Tuple
 
 from ..addresses import base58
 from ..signatures import Secp256k1
 from .errors import INVALID_ADDRESS_OR_KEY, RpcError
 from .node import Node, call
-from .scripts import MOST_KEYS, address_script, base58_data, checksum, without_checksum
+from .checksums import checksum
+from .scripts import MOST_KEYS, address_script, base58_data, without_checksum
 from .signing import read_secret
-from .values import Object
+from .values import Object, unhexed
 
 #: The first bytes of extended keys of regtest, and how many bytes one has.
 PUBLIC, PRIVATE, EXTENDED = bytes.fromhex("043587cf"), bytes.fromhex("04358394"), 78
@@ -43,36 +45,49 @@ class _Found(NamedTuple):
 @call("Util", "descriptor", needed=1, types=("string",))
 def getdescriptorinfo(node: Node, descriptor: Any) -> Object:
     """What a descriptor is, with its checksum, and in its own form without private keys."""
-    given = without_checksum(descriptor)
     with node.others():
+        given = without_checksum(descriptor)
         found, rest = _script(Secp256k1(), given, "")
-    if rest:
-        raise _fault("")
+        if rest:
+            raise _fault("")
+        check = checksum(given)
+        own = check if found.text == given else checksum(found.text)
     return {
-        "descriptor": f"{found.text}#{checksum(found.text)}",
-        "checksum": checksum(given),
+        "descriptor": f"{found.text}#{own}",
+        "checksum": check,
         "isrange": found.is_range,
         "issolvable": found.is_solvable,
         "hasprivatekeys": found.has_private,
     }
 
 
-def _expression(text: str) -> Tuple[str, str]:
-    """An expression up to a comma or bracket that isn't within it, and the rest."""
-    level = 0
-    for place, sign in enumerate(text):
-        if sign == "(":
-            level += 1
-        elif level and sign == ")":
-            level -= 1
-        elif not level and sign in "),":
-            return text[:place], text[place:]
-    return text, ""
+_MARKS = re.compile("[(),]")
+#: All bytes but these.
+_OTHERS = bytes(set(range(256)) - set(b"(),"))
+#: How many characters are looked at together, first and at most.
+_FIRST, _MOST = 128, 1 << 16
+
+
+def _end(text: str, begin: int = 0) -> int:
+    """Where the expression ends that begins at a place: at a comma or bracket that isn't within it."""
+    level, size = 0, _FIRST
+    while begin < len(text):
+        marks = text[begin : begin + size].encode().translate(None, _OTHERS)
+        for place, mark in enumerate(marks):
+            if mark == 0x28:
+                level += 1
+            elif level:
+                level -= mark == 0x29
+            else:
+                return next(islice(_MARKS.finditer(text, begin), place, None)).start()
+        begin, size = begin + size, min(2 * size, _MOST)
+    return len(text)
 
 
 def _script(secp: Secp256k1, text: str, within: str) -> Tuple[_Found, str]:
     """A function, and what is behind it."""
-    own, rest = _expression(text)
+    end = _end(text)
+    own, rest = text[:end], text[end:]
     name, _, inner = own.partition("(")
     if name not in _ALLOWED[within] or inner[-1:] != ")":
         raise _fault(_refused(own, name if inner[-1:] == ")" else "", within))
@@ -103,28 +118,32 @@ def _fixed(name: str, inner: str) -> _Found:
     """An address, or a script's digits."""
     if name == "addr" and address_script(inner) is None:
         raise _fault("Address is not valid")
-    if name == "raw" and (len(inner) % 2 or not re.fullmatch("[0-9a-fA-F]+", inner)):
+    if name == "raw" and not unhexed(inner):
         raise _fault("Raw script is not hex")
     return _Found(inner.lower() if name == "raw" else inner, is_solvable=False)
 
 
 def _number(word: str) -> Optional[int]:
     """A number of 32 bits."""
-    return int(word) if re.fullmatch(r"\+?[0-9]{1,10}", word, re.ASCII) and int(word) < 2**32 else None
+    digits = word[1:] if word[:1] == "+" else word
+    if len(digits) > 10 or not (digits.isascii() and digits.isdigit()):
+        return None
+    found = int(digits)
+    return found if found < 2**32 else None
 
 
 def _multi(secp: Secp256k1, inner: str, within: str) -> _Found:
     """How many signatures, and of which keys."""
-    word, rest = _expression(inner)
-    needed = _number(word)
+    at = _end(inner)
+    needed = _number(inner[:at])
     if needed is None:
-        raise _fault(f"Multi threshold '{word[:100]}' is not valid")
+        raise _fault(f"Multi threshold '{inner[:at][:100]}' is not valid")
     keys: List[_Found] = []
-    while rest:
-        if rest[0] != ",":
-            raise _fault(f"Multi: expected ',', got '{rest[0]}'")
-        own, rest = _expression(rest[1:])
-        keys.append(_key(secp, own, within != "P2WSH"))
+    while at < len(inner):
+        if inner[at] != ",":
+            raise _fault(f"Multi: expected ',', got '{inner[at]}'")
+        begin, at = at + 1, _end(inner, at + 1)
+        keys.append(_key(secp, inner[begin:at], within != "P2WSH"))
     _expect_few(needed, keys, within)
     return _Found(
         ",".join([str(needed), *(key.text for key in keys)]),
@@ -155,7 +174,7 @@ def _expect_few(needed: int, keys: List[_Found], within: str) -> None:
 
 def _key(secp: Secp256k1, text: str, uncompressed: bool) -> _Found:
     """A key, with where it comes from before it."""
-    parts = text.split("]")
+    parts = text.split("]", 2)
     if len(parts) > 2:
         raise _fault("Multiple ']' characters found for a single pubkey")
     if len(parts) == 1:

@@ -3,6 +3,8 @@ batches."""
 
 import json
 import re
+import secrets
+from itertools import accumulate
 from typing import Any, Callable, Dict, List, NoReturn, Optional, Tuple, Union
 
 from .errors import INVALID_REQUEST, METHOD_NOT_FOUND, PARSE_ERROR, RpcError
@@ -18,7 +20,10 @@ MAX_BATCH = 10_000
 #: Turns digits to zeros and all else to spaces, which is the fastest way to find many digits in a row.
 _ZEROS = bytes(0x30 if 0x30 <= byte <= 0x39 else 0x20 for byte in range(256))
 _SURROGATE = re.compile(rb"\\u[dD][89a-fA-F]")
-_BRACKET = re.compile(rb'"(?:[^"\\]|\\.)*"|[\[{]|[\]}]', re.DOTALL)
+#: How much deeper a bracket leads; all bytes but these; and how many bytes are looked at together.
+_STEPS = {0x5B: 1, 0x7B: 1, 0x5D: -1, 0x7D: -1}
+_OTHERS = bytes(set(range(256)) - set(_STEPS))
+_PIECE = 1 << 18
 
 Call = Callable[[str, Any], Any]
 
@@ -78,12 +83,8 @@ def _reply(request: Dict[str, Any], result: Any = None, error: Optional[RpcError
 
 
 def _parsed(body: bytes) -> Any:
-    if body.count(b"[") + body.count(b"{") > MAX_DEPTH:
-        depth = 0
-        for found in _BRACKET.finditer(body):
-            depth += {b"[": 1, b"{": 1, b"]": -1, b"}": -1}.get(found[0], 0)
-            if depth > MAX_DEPTH:
-                raise ValueError("too deep")
+    if body.count(b"[") + body.count(b"{") > MAX_DEPTH and _is_too_deep(body):
+        raise ValueError("too deep")
     # A whole number of more digits Python doesn't read, or not in time.
     whole = _whole if b"0" * MAX_DIGITS in body.translate(_ZEROS) else None
     found = json.loads(
@@ -93,6 +94,20 @@ def _parsed(body: bytes) -> Any:
         # Halves of a sign that aren't paired are refused.
         _texts(found).encode()
     return found
+
+
+def _is_too_deep(body: bytes) -> bool:
+    # Without what is escaped each quote begins a text or ends one.
+    plain = body.replace(rb"\\", b"").replace(rb'\"', b"")
+    depth, inside = 0, 0
+    for begin in range(0, len(plain), _PIECE):
+        parts = plain[begin : begin + _PIECE].split(b'"')
+        brackets = b"".join(parts[inside::2]).translate(None, _OTHERS)
+        depths = list(accumulate(map(_STEPS.__getitem__, brackets), initial=depth))
+        if max(depths) > MAX_DEPTH:
+            return True
+        depth, inside = depths[-1], (inside + len(parts) - 1) % 2
+    return False
 
 
 def _whole(word: str) -> Union[int, Number]:
@@ -109,34 +124,26 @@ def _refused(word: str) -> NoReturn:
 
 def _object(pairs: List[Tuple[str, Any]]) -> Dict[str, Any]:
     """Of a name that is given twice the first counts, as in Bitcoin Core."""
-    found: Dict[str, Any] = {}
-    for name, value in pairs:
-        found.setdefault(name, value)
+    found = dict(pairs)
+    if len(found) < len(pairs):
+        found = {}
+        for name, value in pairs:
+            found.setdefault(name, value)
     return found
+
+
+#: What stands around a number until all is written: no client can have known it.
+_MARK = secrets.token_hex(16)
 
 
 def written(value: Any) -> bytes:
     """A value as JSON, with an end of line."""
-    try:
-        return json.dumps(value, separators=(",", ":")).encode() + b"\n"
-    except TypeError:
-        # It has amounts, whose zeros at the end are written, or a request's number as it was spelled.
-        return "".join(_pieces(value)).encode() + b"\n"
+    spelled = json.dumps(value, separators=(",", ":"), default=_marked)
+    # Zeros at the end of amounts are written, and a request's number as it was spelled.
+    return spelled.replace(f'"{_MARK}', "").replace(f'{_MARK}"', "").encode() + b"\n"
 
 
-def _pieces(value: Any) -> List[str]:
-    if isinstance(value, (Amount, Number)):
-        return [str(value)]
-    if isinstance(value, dict):
-        members = [[json.dumps(name), ":", *_pieces(member)] for name, member in value.items()]
-        return ["{", *_joined(members), "}"]
-    if isinstance(value, (list, tuple)):
-        return ["[", *_joined([_pieces(member) for member in value]), "]"]
-    return [json.dumps(value)]
-
-
-def _joined(members: List[List[str]]) -> List[str]:
-    pieces: List[str] = []
-    for member in members:
-        pieces += [",", *member] if pieces else member
-    return pieces
+def _marked(value: Any) -> str:
+    if not isinstance(value, (Amount, Number)):
+        raise TypeError(f"no JSON: {type(value).__name__}")
+    return f"{_MARK}{value}{_MARK}"

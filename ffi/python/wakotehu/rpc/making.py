@@ -17,6 +17,11 @@ FINAL, LOCKED, REPLACEABLE = 0xFFFFFFFF, 0xFFFFFFFE, 0xFFFFFFFD
 def createrawtransaction(node: Node, inputs: Any, outputs: Any, locktime: Any, replaceable: Any) -> str:
     """A transaction, not signed, as digits: inputs {"txid", "vout", "sequence"}, and outputs {ADDRESS: AMOUNT} or
     {"data": HEX} in a list or an object."""
+    with node.others():
+        return _created(inputs, outputs, locktime, replaceable)
+
+
+def _created(inputs: Any, outputs: Any, locktime: Any, replaceable: Any) -> str:
     for value, kind in ((inputs, "array"), (locktime, "number"), (replaceable, "bool")):
         expect_or_null(value, kind)
     if outputs is None:

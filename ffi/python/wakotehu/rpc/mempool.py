@@ -59,6 +59,13 @@ class ServedMempool(Mempool):
             self._is_busy = False
             self.node.turn.notify_all()
 
+    @contextmanager
+    def read(self) -> Iterator[None]:
+        """The same for a call that only reads, which waits for none that judges what was sent: that changes nothing before it
+        ends, in one step."""
+        self.settle()
+        yield
+
     def settle(self) -> None:
         """Takes up what blocks that left the active branch had."""
         if self.is_stale:

@@ -3,10 +3,10 @@
 import threading
 import time
 from contextlib import contextmanager
-from typing import TYPE_CHECKING, Any, Callable, Dict, Iterable, Iterator, List, NamedTuple, Optional, Sequence, Set, Tuple
+from typing import TYPE_CHECKING, Any, Callable, Dict, Iterable, Iterator, List, Mapping, NamedTuple, Optional, Set, Tuple
 
 from ..chainstate import Reply
-from ..encoding import GENESIS, GENESIS_BLOCK, Output, Spelled, Transaction, read_transaction
+from ..encoding import GENESIS, GENESIS_BLOCK, Output, Spelled, Transaction, double_sha, read_transaction
 from ..errors import NodeDied, NotSaved, Owed
 from ..index import Kept
 from ..nodebench import Move, NodeBench
@@ -148,14 +148,25 @@ class Node:
         assert found is not None, "blocks of the index are kept"
         return found
 
+    def is_valid_copy(self, data: bytes) -> bool:
+        """Whether bytes begin with a kept block on the branch of a tip that isn't marked as invalid: by the bytes that are
+        kept. Each submission of it is a duplicate then."""
+        id = double_sha(data[:80])
+        kept = self.bench.index.blocks.get(id)
+        if kept is None or not data.startswith(self.data(id)):
+            return False
+        return self.bench.index.is_active(id) or any(
+            tip.status != "invalid" and self.bench.index.is_above(tip.id, id) for tip in self.bench.tips()
+        )
+
     def tip(self) -> Kept:
         return self.bench.index.blocks[self.bench.index.active[-1]]
 
-    def spent(self, transactions: Sequence[Transaction]) -> Dict[Tuple[bytes, int], Output]:
-        """What transactions spend, by outpoint, of one another and of kept blocks; those that aren't known aren't there.
-        Each block and each transaction is read once."""
+    def spent(self, transactions: Mapping[bytes, Transaction]) -> Dict[Tuple[bytes, int], Output]:
+        """What transactions, by their ids, spend, by outpoint, of one another and of kept blocks; those that aren't known aren't
+        there. Each block and each transaction is read once. It needs no turn: what blocks made stays as it is."""
         wanted: Dict[bytes, List[int]] = {}
-        for tx in transactions:
+        for tx in transactions.values():
             for spends in tx.inputs:
                 wanted.setdefault(spends.id, []).append(spends.index)
         found = {}
@@ -166,10 +177,9 @@ class Node:
         return found
 
     def _makers(
-        self, wanted: Iterable[bytes], transactions: Sequence[Transaction]
+        self, wanted: Iterable[bytes], made: Mapping[bytes, Transaction]
     ) -> Iterator[Tuple[bytes, Transaction]]:
         """Those that are wanted of some transactions and of kept blocks, one block after the other."""
-        made = {tx.id: tx for tx in transactions}
         yield from ((id, made[id]) for id in wanted if id in made)
         places = self.bench.index.transactions
         block, data = b"", b""
@@ -248,12 +258,13 @@ def run(node: Node, method: str, params: Any, calls: Optional[Dict[str, Call]] =
     found = (CALLS if calls is None else calls).get(method)
     if found is None:
         raise RpcError(METHOD_NOT_FOUND, "Method not found")
+    arguments = found.arguments(params)
     with node.turn:
         if node.stopped:
             raise RpcError(MISC_ERROR, node.broken or "The server is stopping")
         node.running[threading.get_ident()] = method, time.monotonic()
         try:
-            return found.run(node, *found.arguments(params))
+            return found.run(node, *arguments)
         except RpcError:
             raise
         except (NodeDied, NotSaved, Owed) as error:

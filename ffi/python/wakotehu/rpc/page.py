@@ -169,7 +169,7 @@ def _inputs(node: Node, tx: Transaction) -> List[Object]:
     """What a transaction spends, with where it comes from; a coinbase has nothing."""
     if tx.is_coinbase:
         return []
-    spent: Dict[Tuple[bytes, int], Output] = node.spent([tx._replace(inputs=tx.inputs[:MOST])])
+    spent: Dict[Tuple[bytes, int], Output] = node.spent({tx.id: tx._replace(inputs=tx.inputs[:MOST])})
     found = [((it.id, it.index), spent.get((it.id, it.index))) for it in tx.inputs[:MOST]]
     return [{"id": show(at[0]), "number": at[1], **(_output(it, None) if it else {})} for at, it in found]
 

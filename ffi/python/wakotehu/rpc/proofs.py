@@ -22,12 +22,8 @@ _END = "CDataStream::read(): end of data"
 def gettxoutproof(node: Node, txids: Any, blockhash: Any) -> str:
     """A proof that transactions are in a block, as digits: in the one that is named, or in the active one of an output
     that isn't spent."""
-    wanted: Set[bytes] = set()
-    for given in array(txids):
-        id = digits(given, "txid")
-        if id in wanted:
-            raise RpcError(INVALID_PARAMETER, f"Invalid parameter, duplicated txid: {given}")
-        wanted.add(id)
+    with node.others():
+        wanted = _ids(txids)
     kept = _block_of(node, wanted) if blockhash is None else node.kept(digits(blockhash, "blockhash"))
     if kept is None:
         raise RpcError(INVALID_ADDRESS_OR_KEY, "Transaction not yet in block")
@@ -38,6 +34,17 @@ def gettxoutproof(node: Node, txids: Any, blockhash: Any) -> str:
             message = "Not all transactions found in specified or retrieved block"
             raise RpcError(INVALID_ADDRESS_OR_KEY, message)
         return (write_header(kept.header) + proof(ids, [id in wanted for id in ids])).hex()
+
+
+def _ids(txids: Any) -> Set[bytes]:
+    """Ids, of which no two are the same."""
+    found: Set[bytes] = set()
+    for given in array(txids):
+        id = digits(given, "txid")
+        if id in found:
+            raise RpcError(INVALID_PARAMETER, f"Invalid parameter, duplicated txid: {given}")
+        found.add(id)
+    return found
 
 
 def _block_of(node: Node, wanted: Set[bytes]) -> Optional[Kept]:
@@ -56,8 +63,8 @@ def _block_of(node: Node, wanted: Set[bytes]) -> Optional[Kept]:
 @call(GROUP, "proof", needed=1)
 def verifytxoutproof(node: Node, proof: Any) -> List[str]:
     """The transactions that a proof of gettxoutproof leads to; none where it isn't one."""
-    data = hex_text(proof, "proof")
     with node.others():
+        data = hex_text(proof, "proof")
         count, found = leads_to(data)
     if found is None:
         return []
@@ -160,6 +167,8 @@ def _read(data: bytes) -> _Part:
     packed = data[at : at + size]
     if at + size > len(data):
         raise ValueError(_END)
+    # No tree has more, so that it leads to nothing.
+    size = size if size <= MOST else 0
     bits = [bool(packed[place // 8] >> place % 8 & 1) for place in range(8 * size)]
     return _Part(int.from_bytes(data[80:84], "little"), hashes, bits)
 

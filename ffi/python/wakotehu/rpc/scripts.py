@@ -2,18 +2,19 @@
 
 import re
 from itertools import islice
-from typing import Dict, Iterator, List, Optional, Tuple
+from typing import Dict, List, Optional, Tuple
 
 from ..addresses import MAX_ADDRESS, PREFIXES, data_of, script_of, spelled as address
 from ..encoding import hash160, operations
 from ..spelling import NAMES
+from .checksums import checksum, is_spelled
 from .errors import INVALID_ADDRESS_OR_KEY, RpcError
-from .values import HASH_TYPES
+from .values import HASH_TYPES, unhexed
 
 #: The first bytes of addresses of regtest, to a hash of a key and of a script.
 KEY_PREFIX, SCRIPT_PREFIX = PREFIXES["regtest"]
 #: What Bitcoin Core skips around an address.
-_SPACES = " \f\n\r\t\v"
+_SPACES = b" \f\n\r\t\v"
 #: A script of more bytes can't be spent.
 MAX_SCRIPT = 10_000
 #: A script of keys has no more of them.
@@ -24,10 +25,14 @@ _WITNESS = {
 #: A descriptor's script has no more digits.
 MAX_RAW = 2 * 1_000_000
 
-#: Opcodes as words. Each is made once: a script may have a million of one.
+#: Opcodes as words.
 _NAMED: Dict[int, str] = {0: "0", 0x4F: "-1", **{0x50 + number: str(number) for number in range(1, 17)}}
 _NAMED.update({0x50: "OP_RESERVED", 0xFF: "OP_INVALIDOPCODE"})
 _NAMED.update((number, "OP_" + name) for number, name in (*NAMES.items(), (0xBA, "CHECKSIGADD")))
+#: The same by their numbers. A script may have a million of one.
+_WORDS = [_NAMED.get(number, "OP_UNKNOWN") for number in range(256)]
+#: Opcodes that push nothing, in a row.
+_PLAIN = re.compile(b"[\0\x4f-\xff]+")
 _HASH_TYPES = {kind: name for name, kind in HASH_TYPES.items()}
 
 
@@ -35,22 +40,42 @@ def asm(script: bytes, signatures: bool = False) -> str:
     """A script's operations as words (Bitcoin Core's `ScriptToAsmStr`); with `signatures` the hash type of what reads as
     one is a word, except for scripts that can't be spent."""
     signatures = signatures and script[:1] != b"\x6a" and len(script) <= MAX_SCRIPT
-    words, end = [], 0
-    for _, number, data, end in operations(script):
-        if data is None or number == 0:
-            words.append(_NAMED.get(number, "OP_UNKNOWN"))
+    words: List[str] = []
+    at = 0
+    while at < len(script):
+        if not 0 < script[at] < 0x4F:
+            plain = _PLAIN.match(script, at)
+            assert plain is not None, "it is one of them"
+            words += [_WORDS[number] for number in plain[0]]
+            at = plain.end()
+            continue
+        data, at = _pushed_at(script, at)
+        if data is None:
+            words.append("[error]")
         elif len(data) <= 4:
-            words.append(str(_script_number(data)))
+            words.append(_NUMBERS.get(data) or str(_script_number(data)))
         else:
             words.append(_signature_words(data) if signatures else data.hex())
-    if end != len(script):
-        words.append("[error]")
-    return " ".join(word for word in words if word)
+    return " ".join(words)
+
+
+def _pushed_at(script: bytes, at: int) -> Tuple[Optional[bytes], int]:
+    """What the operation at a place pushes, and where it ends; None where the script ends before that."""
+    begin = at + 1
+    end = begin + script[at]
+    if script[at] > 0x4B:
+        begin += {0x4C: 1, 0x4D: 2, 0x4E: 4}[script[at]]
+        end = begin + int.from_bytes(script[at + 1 : begin], "little")
+    return (script[begin:end] if end <= len(script) else None), end
 
 
 def _script_number(data: bytes) -> int:
     value, sign = int.from_bytes(data, "little"), 1 << 8 * len(data) >> 1
     return -(value - sign) if data and value & sign else value
+
+
+#: Numbers of one byte as words.
+_NUMBERS = {bytes([byte]): str(_script_number(bytes([byte]))) for byte in range(256)}
 
 
 def _signature_words(data: bytes) -> str:
@@ -82,6 +107,8 @@ def _is_key(data: bytes) -> bool:
 def _is_data(script: bytes) -> bool:
     """Whether a script is OP_RETURN and pushes."""
     end = 0
+    if script[:1] != b"\x6a":
+        return False
     for begin, number, _, end in operations(script):
         if number != 0x6A if begin == 0 else number > 0x60:
             return False
@@ -115,10 +142,17 @@ def script_keys(script: bytes) -> List[bytes]:
     return found[1] if found else []
 
 
+def is_script_hash(script: bytes) -> bool:
+    """Whether a script pays to the hash of another one."""
+    return len(script) == 23 and script[:2] == b"\xa9\x14" and script[22:] == b"\x87"
+
+
 def kind_of(script: bytes) -> Tuple[str, int, List[str]]:
     """A script's type, how many signatures spend it, and the addresses that it pays to (Bitcoin Core's `Solver`)."""
-    if len(script) == 23 and script[:2] == b"\xa9\x14" and script[22:] == b"\x87":
+    if is_script_hash(script):
         return "scripthash", 1, [address(SCRIPT_PREFIX, script[2:22])]
+    if len(script) == 25 and script[:3] == b"\x76\xa9\x14" and script[23:] == b"\x88\xac":
+        return "pubkeyhash", 1, [address(KEY_PREFIX, script[3:23])]
     if 4 <= len(script) <= 42 and (script[0] == 0 or 0x51 <= script[0] <= 0x60) and script[1] + 2 == len(script):
         other = "nonstandard" if script[0] == 0 else "witness_unknown"
         return _WITNESS.get((script[0], len(script)), other), 0, []
@@ -127,8 +161,6 @@ def kind_of(script: bytes) -> Tuple[str, int, List[str]]:
     found = _few(script)
     if len(found) == 2 and found[1][1] == 0xAC and found[0][2] and _is_key(found[0][2]):
         return "pubkey", 1, []
-    if len(script) == 25 and script[:3] == b"\x76\xa9\x14" and script[23:] == b"\x88\xac":
-        return "pubkeyhash", 1, [address(KEY_PREFIX, script[3:23])]
     keys = _multisig(script)
     if keys:
         return "multisig", keys[0], [address(KEY_PREFIX, hash160(key)) for key in keys[1]]
@@ -163,71 +195,51 @@ def compact(number: int) -> bytes:
 
 def address_script(text: str) -> Optional[bytes]:
     """The script that an address of regtest pays to, or None. Spaces around it don't count."""
-    return script_of(text.strip(_SPACES)) if text.isascii() else None
+    # Bytes are stripped some times as fast as texts.
+    return script_of(text.encode().strip(_SPACES).decode()) if text.isascii() else None
 
 
 def base58_data(text: str, most: int = MAX_ADDRESS) -> Optional[bytes]:
     """What a text in base 58 has before the four bytes of its digest, or None. Spaces around it don't count."""
-    return data_of(text.strip(_SPACES), most)
-
-
-_CHARSET = "0123456789()[],'/*abcdefgh@:$%{}IJKLMNOPQRSTUVWXYZ&+-.;<=>?!^_|~ijklmnopqrstuvwxyzABCDEFGH`#\"\\ "
-_CHECKSUM = "qpzry9x8gf2tvdw0s3jn54khce6mua7l"
-_GENERATOR = (0xF5DEE51989, 0xA9FDCA3312, 0x1BAB10E32D, 0x3706B1677A, 0x644D626FFD)
-
-
-def checksum(descriptor: str) -> str:
-    """The checksum of a descriptor (BIP 380); empty where a character has no place in one."""
-    if any(sign not in _CHARSET for sign in descriptor):
-        return ""
-    state = 1
-    for symbol in _symbols([_CHARSET.index(sign) for sign in descriptor]):
-        top = state >> 35
-        state = (state & 0x7FFFFFFFF) << 5 ^ symbol
-        for bit, factor in enumerate(_GENERATOR):
-            state ^= factor if top >> bit & 1 else 0
-    state ^= 1
-    return "".join(_CHECKSUM[state >> 5 * (7 - place) & 31] for place in range(8))
-
-
-def _symbols(places: List[int]) -> Iterator[int]:
-    """The low five bits of each sign, and behind three signs their high ones; then eight zeros."""
-    for begin in range(0, len(places), 3):
-        group = places[begin : begin + 3]
-        yield from (place & 31 for place in group)
-        high = 0
-        for place in group:
-            high = high * 3 + (place >> 5)
-        yield high
-    yield from [0] * 8
+    return data_of(text.encode().strip(_SPACES).decode(), most) if text.isascii() else None
 
 
 def descriptor_script(descriptor: str) -> bytes:
     """The script of `raw(HEX)` or `addr(ADDRESS)`, with or without a checksum."""
-    text = without_checksum(descriptor)
-    found = re.fullmatch(r"(raw|addr)\((.*)\)", text, re.DOTALL)
-    if not found:
-        raise RpcError(INVALID_ADDRESS_OR_KEY, f"{text[:100]} is not a valid descriptor function")
-    if found[1] == "raw":
-        if len(found[2]) > MAX_RAW or not found[2] or len(found[2]) % 2 or not re.fullmatch("[0-9a-fA-F]*", found[2]):
-            raise RpcError(INVALID_ADDRESS_OR_KEY, "Raw script is not hex")
-        return bytes.fromhex(found[2])
-    script = address_script(found[2])
-    if script is None:
+    text, mark, _ = descriptor.partition("#")
+    script = _fixed_script(text)
+    # One that has a script has no character that descriptors have not.
+    if script is None or mark:
+        text = without_checksum(descriptor)
+    if script is not None:
+        return script
+    if text[:4] == "raw(" and text[-1:] == ")":
+        raise RpcError(INVALID_ADDRESS_OR_KEY, "Raw script is not hex")
+    if text[:5] == "addr(" and text[-1:] == ")":
         raise RpcError(INVALID_ADDRESS_OR_KEY, "Address is not valid")
-    return script
+    raise RpcError(INVALID_ADDRESS_OR_KEY, f"{text[:100]} is not a valid descriptor function")
+
+
+def _fixed_script(text: str) -> Optional[bytes]:
+    """The script of `raw(HEX)` or `addr(ADDRESS)`, or None."""
+    if text[-1:] != ")":
+        return None
+    if text[:4] == "raw(":
+        # One that is too long isn't read.
+        return unhexed(text[4:-1]) or None if len(text) <= MAX_RAW + 5 else None
+    return address_script(text[5:-1]) if text[:5] == "addr(" else None
 
 
 def without_checksum(descriptor: str) -> str:
     """A descriptor without its checksum, which has to be right where it is there (Bitcoin Core's `CheckChecksum`)."""
-    text, *checks = descriptor.split("#")
+    text, *checks = descriptor.split("#", 2)
     if len(checks) > 1:
         raise RpcError(INVALID_ADDRESS_OR_KEY, "Multiple '#' symbols")
     if checks and len(checks[0].encode()) != 8:
         message = f"Expected 8 character checksum, not {len(checks[0].encode())} characters"
         raise RpcError(INVALID_ADDRESS_OR_KEY, message)
-    computed = checksum(text)
-    if not computed:
+    computed = checksum(text) if checks else ""
+    if not computed and not is_spelled(text):
         raise RpcError(INVALID_ADDRESS_OR_KEY, "Invalid characters in payload")
     if checks and checks[0] != computed:
         message = f"Provided checksum '{checks[0]}' does not match computed checksum '{computed}'"

@@ -2,16 +2,14 @@
 
 from typing import Any, List
 
-from .. import consensus
 from ..chainstate import show
-from ..encoding import Transaction, write_transaction
 from ..errors import NotAccepted
 from ..mempool import Entry
 from .errors import (
     INVALID_PARAMETER, TRANSACTION_ALREADY_IN_CHAIN, TRANSACTION_ERROR, TRANSACTION_REJECTED, RpcError,
 )  # fmt: skip
 from .node import Node, call
-from .txs import GROUP, raw_transaction
+from .txs import GROUP, Raw, raw_transaction
 from .values import Amount, Object, amount, array, text
 
 #: The most that a transaction may pay where a call doesn't say it, in satoshis for 1,000 bytes.
@@ -19,7 +17,7 @@ MOST_RATE = 10_000_000
 MISSING = "bad-txns-inputs-missingorspent"
 
 
-def _raw(given: Any) -> Transaction:
+def _raw(given: Any) -> Raw:
     return raw_transaction(text(given), "TX decode failed. Make sure the tx has at least one input.", True)
 
 
@@ -31,30 +29,25 @@ def _most_fee(maxfeerate: Any, size: int) -> int:
 @call(GROUP, "hexstring", "maxfeerate", needed=1, types=("string",))
 def sendrawtransaction(node: Node, hexstring: Any, maxfeerate: Any) -> str:
     """Puts a transaction among those that wait to be mined, by consensus rules alone: its id."""
-    tx = _raw(hexstring)
-    data = write_transaction(tx)
-    most = _most_fee(maxfeerate, len(data))
-    if _is_in_chain(node, tx):
+    with node.others():
+        raw = _raw(hexstring)
+        id = raw.id
+    most = _most_fee(maxfeerate, len(raw.data))
+    # Where an output of it is a coin.
+    if id in node.bench.index.transactions and node.mempool.has_coin(id, len(raw.tx.outputs)):
         raise RpcError(TRANSACTION_ALREADY_IN_CHAIN, "Transaction already in block chain")
     with node.mempool.used():
-        if tx.id in node.mempool.entries:
-            return show(tx.id)
+        if id in node.mempool.entries:
+            return show(id)
         try:
-            entry = node.mempool.judge(data)
+            entry = node.mempool.judge(raw.data, raw.tx)
         except NotAccepted as error:
             code = TRANSACTION_ERROR if error.reason == MISSING else TRANSACTION_REJECTED
             raise RpcError(code, str(error))
         if 0 < most < entry.fee:
             raise RpcError(TRANSACTION_ERROR, "Fee exceeds maximum configured by user (e.g. -maxtxfee, maxfeerate)")
         node.mempool.add(entry)
-    return show(tx.id)
-
-
-def _is_in_chain(node: Node, tx: Transaction) -> bool:
-    """Whether an output of it is a coin."""
-    return tx.id in node.bench.index.transactions and any(
-        node.bench.unspent(tx.id, place) for place in range(len(tx.outputs))
-    )
+    return show(id)
 
 
 @call(GROUP, "rawtxs", "maxfeerate", needed=1, types=("array",))
@@ -62,12 +55,13 @@ def testmempoolaccept(node: Node, rawtxs: Any, maxfeerate: Any) -> List[Object]:
     """Whether a transaction would be put among those that wait, and why not. Nothing changes."""
     if len(array(rawtxs)) != 1:
         raise RpcError(INVALID_PARAMETER, "Array must contain exactly one raw transaction for now")
-    data = write_transaction(_raw(rawtxs[0]))
-    most = _most_fee(maxfeerate, len(data))
-    found: Object = {"txid": show(consensus.double_sha(data))}
+    with node.others():
+        raw = _raw(rawtxs[0])
+        found: Object = {"txid": show(raw.id)}
+    most = _most_fee(maxfeerate, len(raw.data))
     try:
         with node.mempool.used():
-            entry = node.mempool.judge(data)
+            entry = node.mempool.judge(raw.data, raw.tx)
     except NotAccepted as error:
         why = "missing-inputs" if error.reason == MISSING else error.reason
         return [{**found, "allowed": False, "reject-reason": why}]

@@ -9,7 +9,7 @@ from ..encoding import Input, Transaction, hash160, operations, push, signature_
 from ..signatures import Secp256k1
 from .errors import DESERIALIZATION_ERROR, INVALID_ADDRESS_OR_KEY, INVALID_PARAMETER, MISC_ERROR, TYPE_ERROR, RpcError
 from .node import Node, call
-from .scripts import asm, base58_data, kind_of, script_keys
+from .scripts import asm, base58_data, is_script_hash, kind_of, script_keys
 from .txs import GROUP, raw_transaction
 from .values import HASH_TYPES, Object, amount, array, digits, expect_or_null, hex_text, integer, kind_name, text
 
@@ -53,20 +53,19 @@ def signrawtransactionwithkey(node: Node, hexstring: Any, privkeys: Any, prevtxs
     "scriptPubKey", "redeemScript"}. Witness programs aren't signed."""
     for value, kind in ((hexstring, "string"), (privkeys, "array"), (prevtxs, "array"), (sighashtype, "string")):
         expect_or_null(value, kind)
-    tx = raw_transaction(text(hexstring), "TX decode failed. Make sure the tx has at least one input.", True)
-    secp = Secp256k1()
-    keys = _Keys(secp, array(privkeys))
-    spent: Dict[Tuple[bytes, int], bytes] = {}
-    for it in tx.inputs:
-        found = node.bench.unspent(it.id, it.index)
-        if found is not None:
-            spent[it.id, it.index] = found.coin.script
-    redeems: Dict[bytes, bytes] = {}
-    for given in prevtxs or ():
-        _take_output(given, spent, redeems)
-    if sighashtype is not None and sighashtype not in HASH_TYPES:
-        raise RpcError(MISC_ERROR, f"{sighashtype[:100]} is not a valid sighash parameter.")
     with node.others():
+        tx = raw_transaction(text(hexstring), "TX decode failed. Make sure the tx has at least one input.", True).tx
+        secp = Secp256k1()
+        keys = _Keys(secp, array(privkeys))
+        places = [(it.id, it.index) for it in tx.inputs]
+    coins = zip(places, node.bench.coins_at(places))
+    spent = {place: coin.script for place, coin in coins if coin is not None}
+    redeems: Dict[bytes, bytes] = {}
+    with node.others():
+        for given in prevtxs or ():
+            _take_output(given, spent, redeems)
+        if sighashtype is not None and sighashtype not in HASH_TYPES:
+            raise RpcError(MISC_ERROR, f"{sighashtype[:100]} is not a valid sighash parameter.")
         return _signed(tx, spent, _Means(secp, keys, redeems, HASH_TYPES[sighashtype or "ALL"]))
 
 
@@ -87,7 +86,7 @@ def _take_output(given: Any, spent: Dict[Tuple[bytes, int], bytes], redeems: Dic
     if "amount" in given:
         amount(given["amount"])
     spent[id, index] = script
-    if kind_of(script)[0] == "scripthash":
+    if is_script_hash(script):
         redeem = _redeem(given)
         if hash160(redeem) != script[2:22]:
             raise RpcError(INVALID_PARAMETER, "redeemScript/witnessScript does not match scriptPubKey")
@@ -201,7 +200,7 @@ class _Signer:
     def _code(self, pushed: List[bytes]) -> Optional[bytes]:
         """The script that signatures are for: that of the output, or the one whose hash it has; None where that isn't
         known."""
-        if kind_of(self.script)[0] != "scripthash":
+        if not is_script_hash(self.script):
             return self.script
         wanted = self.script[2:22]
         if pushed and hash160(pushed[-1]) == wanted:

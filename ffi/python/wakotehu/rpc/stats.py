@@ -1,26 +1,26 @@
 """getblockstats."""
 
-from typing import Any, List, Sequence, Tuple
+from typing import Any, Dict, List, Sequence, Tuple
 
 from ..chainstate import show
-from ..encoding import read_block, subsidy, write_transaction
+from ..encoding import Outline, outline, outlines, subsidy
 from ..index import Kept
 from .errors import INVALID_PARAMETER, MISC_ERROR, RpcError
 from .node import Node, call
 from .values import Object, array, digits, integer, is_number, text
 
-#: What an output takes beside its script, in bytes, as Bitcoin Core counts it: outpoint, height and mark, and value.
-PER_OUTPUT = 41
+#: What an output takes beside its script, in bytes, as Bitcoin Core counts it: value, outpoint, height and mark.
+PER_OUTPUT = 8 + 41
 
 
 @call("Blockchain", "hash_or_height", "stats", needed=1)
 def getblockstats(node: Node, hash_or_height: Any, stats: Any) -> Object:
     """Sizes and fees of a block of the active branch, in satoshis; all of them, or those that are named."""
     kept = _asked(node, hash_or_height)
-    wanted = None if stats is None else [text(name) for name in array(stats)]
-    found = _stats(node, kept)
-    for name in sorted(wanted or ()):
-        if name not in found:
+    with node.others():
+        wanted = set() if stats is None else {text(name) for name in array(stats)}
+        found = _stats(node, kept)
+        for name in sorted(wanted - found.keys())[:1]:
             raise RpcError(INVALID_PARAMETER, f"Invalid selected statistic {name[:100]}")
     return {name: value for name, value in found.items() if not wanted or name in wanted}
 
@@ -43,20 +43,16 @@ def _asked(node: Node, given: Any) -> Kept:
 def _stats(node: Node, kept: Kept) -> Object:
     if kept.height == 0:
         raise RpcError(MISC_ERROR, "Can't read undo data from disk")
-    txs = read_block(node.data(kept.id)).transactions
-    others = txs[1:]
-    sizes = [len(write_transaction(tx)) for tx in others]
-    outputs = node.spent(others)
-    spent = [[outputs[spends.id, spends.index] for spends in tx.inputs] for tx in others]
-    fees = [sum(out.value for out in outs) - sum(out.value for out in tx.outputs) for tx, outs in zip(others, spent)]
-    made = [out for tx in txs for out in tx.outputs]
-    made_size = sum(_output_size(len(out.script)) for out in made)
-    gone_size = sum(_output_size(len(out.script)) for outs in spent for out in outs)
-    ins = sum(len(tx.inputs) for tx in others)
+    txs = outlines(node.data(kept.id))
+    others, sizes = txs[1:], [tx.size for tx in txs[1:]]
+    spent = _spent(node, others)
+    fees = [sum([value for value, _ in outs]) - tx.value for tx, outs in zip(others, spent)]
+    made = [size for tx in txs for _, size in tx.outputs]
+    gone = [size for outs in spent for _, size in outs]
     found = {
         "blockhash": show(kept.id),
         "height": kept.height,
-        "ins": ins,
+        "ins": len(gone),
         "mediantime": kept.median,
         "outs": len(made),
         "subsidy": subsidy(kept.height),
@@ -64,10 +60,10 @@ def _stats(node: Node, kept: Kept) -> Object:
         "swtotal_weight": 0,
         "swtxs": 0,
         "time": kept.header.time,
-        "total_out": sum(out.value for tx in others for out in tx.outputs),
+        "total_out": sum(tx.value for tx in others),
         "txs": len(txs),
-        "utxo_increase": len(made) - ins,
-        "utxo_size_inc": made_size - gone_size,
+        "utxo_increase": len(made) - len(gone),
+        "utxo_size_inc": sum(made) - sum(gone) + PER_OUTPUT * (len(made) - len(gone)),
         **_of_fees(fees, sizes),
         **_of_sizes(sizes),
     }
@@ -101,8 +97,21 @@ def _of_sizes(sizes: List[int]) -> Object:
     }
 
 
-def _output_size(script: int) -> int:
-    return 8 + (1 if script < 253 else 3 if script < 2**16 else 5) + script + PER_OUTPUT
+def _spent(node: Node, txs: Sequence[Outline]) -> List[List[Tuple[int, int]]]:
+    """The outputs that each transaction of a kept block spends."""
+    made: Dict[bytes, Outline] = {}
+    found = []
+    for tx in txs:
+        outs = []
+        for spends in tx.spends:
+            id = spends[:32]
+            if id not in made:
+                data = node.bench.spelled(id)
+                assert data is not None, "blocks of the index are kept"
+                made[id] = outline(data)
+            outs.append(made[id].outputs[int.from_bytes(spends[32:], "little")])
+        found.append(outs)
+    return found
 
 
 def _median(numbers: Sequence[int]) -> int:

@@ -4,7 +4,7 @@ from typing import Any, List
 
 from ..chainstate import show
 from ..encoding import EncodingError, block_at_front, double_sha, meeting_target, subsidy, write_header
-from ..mempool import MAX_BLOCK, MAX_SIGOPS, Entry
+from ..mempool import MAX_BLOCK, MAX_SIGOPS, Entry, Room
 from .errors import DESERIALIZATION_ERROR, INVALID_PARAMETER, RpcError
 from .mining import GROUP
 from .node import Node, call
@@ -34,19 +34,19 @@ def _proposed(node: Node, given: Any) -> Any:
     """As a submission is answered, by BIP 23."""
     if not isinstance(given, str):
         raise RpcError(-3, "Missing data String key for proposal")
-    data = hexadecimal(text(given), "Block decode failed")
-    try:
-        with node.others():
+    with node.others():
+        data = hexadecimal(text(given), "Block decode failed")
+        try:
             block = block_at_front(data)
-    except EncodingError:
-        raise RpcError(DESERIALIZATION_ERROR, "Block decode failed")
-    id = double_sha(block.data[:80])
+        except EncodingError:
+            raise RpcError(DESERIALIZATION_ERROR, "Block decode failed")
+        id = double_sha(block.data[:80])
+        # A proposal needs no proof of work.
+        header = meeting_target(block.header)
+        block = block._replace(header=header, data=write_header(header) + block.data[80:])
     if id in node.bench.index.blocks:
         active = node.bench.index.is_active(id)
         return "duplicate" if active else "duplicate-inconclusive"
-    # A proposal needs no proof of work.
-    header = meeting_target(block.header)
-    block = block._replace(header=header, data=write_header(header) + block.data[80:])
     while True:
         tip = node.tip()
         if header.parent != tip.id:
@@ -61,11 +61,13 @@ def _proposed(node: Node, given: Any) -> Any:
 
 
 def _template(node: Node) -> Object:
-    with node.mempool.used():
-        tip, chosen = node.tip(), node.mempool.selection(b"")
+    with node.mempool.read():
+        tip, chosen = node.tip(), node.mempool.selection(Room())
         places = {entry.id: place for place, entry in enumerate(chosen, 1)}
-        waiting = [_transaction(entry, node.mempool.parents(entry.id), places) for entry in chosen]
+        parents = [node.mempool.parents(entry.id) for entry in chosen]
         come = node.mempool.sequence
+    with node.others():
+        waiting = [_transaction(entry, its, places) for entry, its in zip(chosen, parents)]
     height, least = tip.height + 1, tip.median + 1
     return {
         "capabilities": ["proposal"],

@@ -1,17 +1,17 @@
 """Calls that show transactions and scripts."""
 
-from typing import Any, Dict, Optional, Tuple
+from typing import Any, Mapping, NamedTuple, Optional, Tuple
 
 from ..chainstate import show
 from ..encoding import (
-    GENESIS, EncodingError, Output, Transaction, block_at_front, hash160, read_block, read_transaction, write_transaction,
+    GENESIS, EncodingError, Output, Transaction, block_at_front, double_sha, hash160, read_transaction, size_of,
 )  # fmt: skip
 from ..index import Kept
 from .errors import DESERIALIZATION_ERROR, INVALID_ADDRESS_OR_KEY, INVALID_PARAMETER, RpcError
 from .node import Node, call
 from ..addresses import spelled as address
 from .scripts import SCRIPT_PREFIX, asm, kind_of, shown
-from .values import Amount, Object, boolean, digits, hexadecimal, integer, is_number
+from .values import Amount, Object, boolean, digits, hexadecimal, integer, is_number, unhexed
 
 GROUP = "Rawtransactions"
 #: A transaction, or a script, of more bytes can't be in a block.
@@ -19,13 +19,13 @@ MAX_SIZE = 1_000_000
 
 
 def transaction_fields(
-    tx: Transaction, spent: Optional[Dict[Tuple[bytes, int], Output]] = None, with_hex: bool = True
+    data: bytes, spent: Optional[Mapping[Tuple[bytes, int], Output]] = None, with_hex: bool = True
 ) -> Object:
-    """A transaction as calls show it; with the fee where what it spends is given."""
-    data = write_transaction(tx)
+    """A transaction, by its bytes, as calls show it; with the fee where what it spends is given."""
+    tx, id = read_transaction(data), show(double_sha(data))
     fields: Object = {
-        "txid": show(tx.id),
-        "hash": show(tx.id),
+        "txid": id,
+        "hash": id,
         # Without a sign, as Bitcoin Core shows it.
         "version": tx.version & 0xFFFFFFFF,
         "size": len(data),
@@ -66,43 +66,46 @@ def getrawtransaction(node: Node, txid: Any, verbose: Any, blockhash: Any) -> An
         message = "The genesis block coinbase is not considered an ordinary transaction and cannot be retrieved"
         raise RpcError(INVALID_ADDRESS_OR_KEY, message)
     level = 0 if verbose is None else integer(verbose) if is_number(verbose) else int(boolean(verbose))
-    tx, kept = _found(node, id) if blockhash is None else _of_block(node, id, blockhash)
+    data, kept = _found(node, id) if blockhash is None else _of_block(node, id, blockhash)
     if not level:
-        return write_transaction(tx).hex()
+        return data.hex()
+    with node.others():
+        fields = transaction_fields(data)
     if kept is None:
-        return transaction_fields(tx)
+        return fields
     active = node.bench.index.is_active(kept.id)
     moments: Object = {"time": kept.header.time, "blocktime": kept.header.time} if active else {}
     return {
         **({} if blockhash is None else {"in_active_chain": active}),
-        **transaction_fields(tx),
+        **fields,
         "blockhash": show(kept.id),
         "confirmations": node.tip().height - kept.height + 1 if active else 0,
         **moments,
     }
 
 
-def _of_block(node: Node, id: bytes, blockhash: Any) -> Tuple[Transaction, Kept]:
-    """A transaction of the block that is named."""
+def _of_block(node: Node, id: bytes, blockhash: Any) -> Tuple[bytes, Kept]:
+    """The bytes of a transaction of the block that is named."""
     kept = node.kept(digits(blockhash, "parameter 3"), "Block hash not found")
-    for tx in read_block(node.data(kept.id)).transactions:
-        if tx.id == id:
-            return tx, kept
+    with node.others():
+        block = block_at_front(node.data(kept.id))
+    if id in block.ids:
+        return block.data[slice(*block.places[block.ids.index(id)])], kept
     message = "No such transaction found in the provided block. Use gettransaction for wallet transactions."
     raise RpcError(INVALID_ADDRESS_OR_KEY, message)
 
 
-def _found(node: Node, id: bytes) -> Tuple[Transaction, Optional[Kept]]:
-    """A transaction that waits, or by -txindex one of an active block, with that."""
-    with node.mempool.used():
+def _found(node: Node, id: bytes) -> Tuple[bytes, Optional[Kept]]:
+    """The bytes of a transaction that waits, or by -txindex of one of an active block, with that."""
+    with node.mempool.read():
         entry = node.mempool.entries.get(id)
     if entry is not None:
-        return entry.tx, None
+        return entry.data, None
     why = "No such mempool transaction. Use -txindex or provide a block hash to enable blockchain transaction queries"
     if node.has_index:
-        kept, tx = active_block(node, id), node.bench.transaction(id)
-        if kept is not None and tx is not None:
-            return tx, kept
+        kept, data = active_block(node, id), node.bench.spelled(id)
+        if kept is not None and data is not None:
+            return data, kept
         why = "No such mempool or blockchain transaction"
     raise RpcError(INVALID_ADDRESS_OR_KEY, f"{why}. Use gettransaction for wallet transactions.")
 
@@ -125,10 +128,21 @@ def active_block(node: Node, id: bytes) -> Optional[Kept]:
 def decoderawtransaction(node: Node, hexstring: Any, iswitness: Any) -> Object:
     """A transaction of these digits, shown. Where iswitness is true, one that begins as those with witnesses do isn't one."""
     with node.others():
-        return transaction_fields(raw_transaction(hexstring, "TX decode failed", iswitness is True), with_hex=False)
+        return transaction_fields(raw_transaction(hexstring, "TX decode failed", iswitness is True).data, with_hex=False)
 
 
-def raw_transaction(hexstring: Any, fault: str, with_witness: bool) -> Transaction:
+class Raw(NamedTuple):
+    """A transaction that was given by its bytes."""
+
+    tx: Transaction
+    data: bytes
+
+    @property
+    def id(self) -> bytes:
+        return double_sha(self.data)
+
+
+def raw_transaction(hexstring: Any, fault: str, with_witness: bool) -> Raw:
     """The transaction of these digits, which is no larger than a block. Outputs without an input are the mark of a
     witness."""
     data = hexadecimal(hexstring, fault, MAX_SIZE)
@@ -137,9 +151,9 @@ def raw_transaction(hexstring: Any, fault: str, with_witness: bool) -> Transacti
     except EncodingError:
         raise RpcError(DESERIALIZATION_ERROR, fault)
     # A count that isn't spelled shortest is refused.
-    if write_transaction(tx) != data or (with_witness and tx.outputs and not tx.inputs):
+    if size_of(tx) != len(data) or (with_witness and tx.outputs and not tx.inputs):
         raise RpcError(DESERIALIZATION_ERROR, fault)
-    return tx
+    return Raw(tx, data)
 
 
 @call(GROUP, "hexstring", needed=1, types=("string",))
@@ -147,11 +161,10 @@ def decodescript(node: Node, hexstring: Any) -> Object:
     """A script of these digits, shown, with the address of its hash."""
     if len(hexstring) > 2 * MAX_SIZE:
         raise RpcError(INVALID_PARAMETER, f"argument has more than {MAX_SIZE} bytes, as no block has a script")
-    try:
-        script = hexadecimal(hexstring, "", MAX_SIZE)
-    except RpcError:
-        raise RpcError(INVALID_PARAMETER, f"argument must be hexadecimal string (not '{hexstring[:100]}')")
     with node.others():
+        script = unhexed(hexstring)
+        if script is None:
+            raise RpcError(INVALID_PARAMETER, f"argument must be hexadecimal string (not '{hexstring[:100]}')")
         found = shown(script, with_hex=False)
         if kind_of(script)[0] != "scripthash":
             found["p2sh"] = address(SCRIPT_PREFIX, hash160(script))

@@ -3,7 +3,6 @@
 import re
 from typing import Any, Dict, List, Optional
 
-from ..chainstate import read_id
 from .errors import DESERIALIZATION_ERROR, INVALID_PARAMETER, MISC_ERROR, TYPE_ERROR, RpcError
 
 
@@ -83,9 +82,20 @@ def digits(value: Any, name: str) -> bytes:
     given = text(value)
     if len(given) != 64:
         raise RpcError(INVALID_PARAMETER, f"{name} must be of length 64 (not {len(given)}, for '{shortened(given)}')")
-    if not re.fullmatch("[0-9a-fA-F]*", given):
+    found = unhexed(given)
+    if found is None:
         raise RpcError(INVALID_PARAMETER, f"{name} must be hexadecimal string (not '{given}')")
-    return read_id(given)
+    return found[::-1]
+
+
+def unhexed(given: str) -> Optional[bytes]:
+    """The bytes of hexadecimal digits, or None."""
+    try:
+        found = bytes.fromhex(given)
+    except ValueError:
+        return None
+    # Python passes over spaces.
+    return found if 2 * len(found) == len(given) else None
 
 
 def hexadecimal(value: Any, fault: str, most: Optional[int] = None) -> bytes:
@@ -93,17 +103,19 @@ def hexadecimal(value: Any, fault: str, most: Optional[int] = None) -> bytes:
     given = text(value)
     if most is not None and len(given) > 2 * most:
         raise RpcError(DESERIALIZATION_ERROR, f"{fault} It has more than {most} bytes.")
-    if len(given) % 2 or not re.fullmatch("[0-9a-fA-F]*", given):
+    found = unhexed(given)
+    if found is None:
         raise RpcError(DESERIALIZATION_ERROR, fault)
-    return bytes.fromhex(given)
+    return found
 
 
 def hex_text(value: Any, name: str) -> bytes:
     """Bytes as digits, one at least, by Bitcoin Core's `ParseHexV`: anything but text counts as no digits."""
     given = value if isinstance(value, str) else ""
-    if not given or len(given) % 2 or not re.fullmatch("[0-9a-fA-F]*", given):
+    found = unhexed(given)
+    if not found:
         raise RpcError(INVALID_PARAMETER, f"{name} must be hexadecimal string (not '{shortened(given)}')")
-    return bytes.fromhex(given)
+    return found
 
 
 def shortened(given: str) -> str:

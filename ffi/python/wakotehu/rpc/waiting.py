@@ -3,7 +3,7 @@
 from typing import Any, List
 
 from ..chainstate import show
-from ..mempool import Mempool
+from ..mempool import Waiting
 from .errors import INVALID_ADDRESS_OR_KEY, INVALID_PARAMETER, RpcError
 from .node import Node, call
 from .values import Amount, Object, boolean, digits
@@ -16,7 +16,7 @@ NO_FEE = Amount(0)
 @call(GROUP)
 def getmempoolinfo(node: Node) -> Object:
     """How much waits to be mined. No fee is asked for."""
-    with node.mempool.used():
+    with node.mempool.read():
         pool = node.mempool
         sent = sum(entry.is_sent for entry in pool.entries.values())
         return {"loaded": True, "size": len(pool.entries), "bytes": pool.bytes, "usage": pool.bytes, "maxmempool": pool.most,
@@ -27,17 +27,19 @@ def getmempoolinfo(node: Node) -> Object:
 def getrawmempool(node: Node, verbose: Any, mempool_sequence: Any) -> Any:
     """The ids of what waits to be mined; with all that is known of each where verbose is true."""
     sequence = mempool_sequence is not None and boolean(mempool_sequence)
-    with node.mempool.used():
-        pool = node.mempool
-        if verbose is not None and boolean(verbose):
-            if sequence:
-                raise RpcError(INVALID_PARAMETER, "Verbose results cannot contain mempool sequence values.")
+    is_verbose = verbose is not None and boolean(verbose)
+    if is_verbose and sequence:
+        raise RpcError(INVALID_PARAMETER, "Verbose results cannot contain mempool sequence values.")
+    with node.mempool.read():
+        pool, come = node.mempool.copy(), node.mempool.sequence
+    with node.others():
+        if is_verbose:
             return _all_fields(pool, list(pool.entries))
         ids = [show(id) for id in _in_order(pool)]
-        return {"txids": ids, "mempool_sequence": pool.sequence} if sequence else ids
+        return {"txids": ids, "mempool_sequence": come} if sequence else ids
 
 
-def _in_order(pool: Mempool) -> List[bytes]:
+def _in_order(pool: Waiting) -> List[bytes]:
     """As Bitcoin Core lists them: those with fewer ancestors first, then by the fee for a byte, then by the id downwards."""
 
     def key(id: bytes) -> Any:
@@ -47,7 +49,7 @@ def _in_order(pool: Mempool) -> List[bytes]:
     return sorted(pool.entries, key=key)
 
 
-def _entry(pool: Mempool, txid: Any) -> bytes:
+def _entry(pool: Waiting, txid: Any) -> bytes:
     id = digits(txid, "parameter 1")
     if id not in pool.entries:
         raise RpcError(INVALID_ADDRESS_OR_KEY, "Transaction not in mempool")
@@ -57,15 +59,17 @@ def _entry(pool: Mempool, txid: Any) -> bytes:
 @call(GROUP, "txid", needed=1)
 def getmempoolentry(node: Node, txid: Any) -> Object:
     """What is known of a transaction that waits to be mined."""
-    with node.mempool.used():
+    with node.mempool.read():
         return _fields(node.mempool, _entry(node.mempool, txid))
 
 
 @call(GROUP, "txid", "verbose", needed=1)
 def getmempoolancestors(node: Node, txid: Any, verbose: Any) -> Any:
     """Those that have to be mined before one that waits."""
-    with node.mempool.used():
-        pool = node.mempool
+    with node.mempool.read():
+        _entry(node.mempool, txid)
+        pool = node.mempool.copy()
+    with node.others():
         found = pool.ancestors(_entry(pool, txid))
         return _all_fields(pool, found) if verbose is not None and boolean(verbose) else [show(id) for id in found]
 
@@ -73,17 +77,19 @@ def getmempoolancestors(node: Node, txid: Any, verbose: Any) -> Any:
 @call(GROUP, "txid", "verbose", needed=1)
 def getmempooldescendants(node: Node, txid: Any, verbose: Any) -> Any:
     """Those that can't be mined without one that waits."""
-    with node.mempool.used():
-        pool = node.mempool
+    with node.mempool.read():
+        _entry(node.mempool, txid)
+        pool = node.mempool.copy()
+    with node.others():
         found = pool.descendants(_entry(pool, txid))
         return _all_fields(pool, found) if verbose is not None and boolean(verbose) else [show(id) for id in found]
 
 
-def _all_fields(pool: Mempool, ids: List[bytes]) -> Object:
+def _all_fields(pool: Waiting, ids: List[bytes]) -> Object:
     return {show(id): _fields(pool, id) for id in ids}
 
 
-def _fields(pool: Mempool, id: bytes) -> Object:
+def _fields(pool: Waiting, id: bytes) -> Object:
     """What is known of one, in Bitcoin Core's order."""
     entry = pool.entries[id]
     above = [entry, *(pool.entries[it] for it in pool.ancestors(id))]
