@@ -158,7 +158,7 @@ class FolderCase(unittest.TestCase):
         other = maker.chain(2, block_id(blocks[-1]), extra=b"o")
         bad = maker.block(block_id(spending), more=1)
         orphan = maker.block(block_id(maker.block(block_id(bad))))
-        for block in (spending, spending, bad, orphan, *other):
+        for block in (spending, bad, bad, orphan, *other):
             server.call("submitblock", block.hex())
         server.call("invalidateblock", show(block_id(other[1])))
         server.call("preciousblock", show(block_id(other[0])))
@@ -198,7 +198,7 @@ class FolderTest(FolderCase):
         with open(self.log, "rb") as file:
             text = file.read()
         for wrong, told in (
-            (text.replace(b" = duplicate\t", b" = accepted\t"), "journal line 104: the node replies duplicate"),
+            (text.replace(b" = duplicate-invalid\t", b" = accepted\t"), "journal line 105: the node replies duplicate-invalid"),
             (text.replace(b"2 seat", b"3 seat", 1), "journal line 2"), (b"x\n" + text, "journal line 1"),
         ):  # fmt: skip
             with open(self.log, "wb") as file:

@@ -4,7 +4,6 @@ place, takes no thread of its own. A read is made by one of a few threads, since
 import asyncio
 from concurrent.futures import Future, ThreadPoolExecutor
 from functools import partial
-from threading import Event
 from types import TracebackType
 from typing import Callable, Dict, List, NoReturn, Optional, Sequence, Tuple, Type, TypeVar
 from uuid import UUID
@@ -14,7 +13,7 @@ from .arguments import Path, number
 from .chainstate import BlockHeader, Coin, Moved, Reply, Tip
 from .replica import Placed, Replica, ReplicaSeat, Status, late
 from .replicalog import Command, Setting
-from .replication import Watch, Write
+from .replication import Bell, Watch, Write
 from .served import TIMEOUT, Stamped, UnspentOutput, checked
 from .signatures import Verify
 
@@ -24,7 +23,7 @@ T = TypeVar("T")
 _READERS = 8
 
 
-class _Bell(Event):
+class _Bell(Bell):
     """Is set by any thread, and heard in an event loop."""
 
     def __init__(self) -> None:

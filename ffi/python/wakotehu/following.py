@@ -74,7 +74,7 @@ class Follower(Connected):
         with self._state.lock:
             while self._seen and self._seen[0].place <= self._state.taken:
                 self._state.fresh = self._seen.popleft()
-            self._state.moved.notify_all()
+            self._state.wake()
 
     def _take_many(self, log: Log, newest: int) -> None:
         """Takes the rows of a long history."""

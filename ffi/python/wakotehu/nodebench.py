@@ -1,7 +1,9 @@
 """A node of many seats as one bench, for a server whose connections call beside one another."""
 
+import math
 import os
 import threading
+import time
 from contextlib import contextmanager
 from types import TracebackType
 from typing import Callable, Dict, Iterator, List, NamedTuple, NoReturn, Optional, Sequence, Tuple, Type, TypeVar, Union
@@ -23,6 +25,8 @@ Coins = List[Tuple[bytes, int, Coin]]
 
 #: As many as a node may have.
 SEATS = 16
+#: So many seconds are no limit, and not too many for a lock.
+_LONG = 3600.0
 
 
 class Move(NamedTuple):
@@ -151,10 +155,11 @@ class NodeBench(Walks):
             self._threads[number] -= 1
             del self._own.number
 
-    def settle(self) -> None:
-        """Waits until no step is under way."""
-        while self._under_way and not self._broken:
-            self.turn.wait()
+    def settle(self, seconds: float = math.inf) -> None:
+        """Waits until no step is under way, and at most so long."""
+        until = time.monotonic() + seconds
+        while self._under_way and not self._broken and time.monotonic() < until:
+            self.turn.wait(min(until - time.monotonic(), _LONG))
 
     def _asked(self, ask: Callable[[Seat], Stamped[T]]) -> Stamped[T]:
         """What this thread's seat answers, while other threads call."""

@@ -7,7 +7,6 @@ import os
 import re
 import socket
 import time
-from threading import Event
 from types import TracebackType
 from typing import Callable, Dict, List, NamedTuple, NoReturn, Optional, Sequence, Tuple, Type, TypeVar, Union
 from uuid import UUID, uuid4
@@ -18,7 +17,7 @@ from .chainstate import BlockHeader, Coin, Moved, Reply, Tip
 from .following import Follower
 from .node import Node, Seat
 from .replicalog import Command, Log, Lost
-from .replication import Appender, Fresh, State, Watch, Watcher, Write
+from .replication import Appender, Bell, Fresh, State, Watch, Watcher, Write
 from .served import MOST, TIMEOUT, Stamped, UnspentOutput, Wanted, checked, dry_run, mark, submission
 from .signatures import Verify, secp256k1
 
@@ -354,18 +353,26 @@ class Replica:
             raise errors.Closed("the replica was closed")
 
     def _wait(self, is_done: Callable[[], bool], seconds: Optional[float], late: str) -> None:
-        state = self._state
-        with state.lock:
-            state.moved.wait_for(lambda: is_done() or state.is_over, seconds)
-            self._check()
-            if not is_done():
-                raise errors.TimedOut(late)
+        state, until = self._state, None if seconds is None else time.monotonic() + seconds
+        while True:
+            bell = Bell()
+            with state.lock:
+                self._check()
+                if is_done():
+                    return
+                state.look(bell)
+            try:
+                left = None if until is None else max(0.0, until - time.monotonic())
+                if not bell.wait(left):
+                    raise errors.TimedOut(late)
+            finally:
+                state.leave(bell)
 
     # ---- writes
 
     def _write(self, command: Command) -> Tuple[int, Reply]:
         """Has a command appended, and taken: its place and the reply."""
-        write = Write(command, Event())
+        write = Write(command, Bell())
         self._begin(write)
         try:
             write.done.wait(self._timeout)

@@ -1,5 +1,6 @@
 """A replica as one bench, for a server whose connections call beside one another, and which has one history with others."""
 
+import math
 import random
 import threading
 from typing import Callable, Dict, List, Optional, Tuple, TypeVar
@@ -56,7 +57,7 @@ class ReplicaBench(NodeBench):
         """Ends the replica."""
         self.replica.close()
 
-    def settle(self) -> None:
+    def settle(self, seconds: float = math.inf) -> None:
         """Nothing is under way that the end would lose: the database has it."""
 
     # ---- rows

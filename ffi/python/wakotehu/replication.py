@@ -7,7 +7,7 @@ from collections import deque
 from heapq import heapify, heappop, heappush
 from itertools import count
 from threading import Condition, Event, Lock, Thread
-from typing import Callable, Deque, Dict, Iterable, List, NamedTuple, Optional, Sequence, Tuple
+from typing import Callable, Deque, Dict, Iterable, List, NamedTuple, Optional, Sequence, Set, Tuple
 from uuid import UUID
 
 from . import errors
@@ -54,12 +54,32 @@ class Places:
             return bisect_right(self._steps, steps)
 
 
+class Bell:
+    """As `threading.Event` for one thread that waits, which an interrupt may cut short at each moment: then `Event.wait` may give back
+    a lock that it doesn't hold."""
+
+    def __init__(self) -> None:
+        self._is_set, self._lock = False, Lock()
+        self._lock.acquire()
+
+    def set(self) -> None:
+        self._is_set = True
+        try:
+            self._lock.release()
+        except RuntimeError:
+            pass  # It rings already.
+
+    def wait(self, seconds: Optional[float] = None) -> bool:
+        """Waits until it is set, and at most so long."""
+        return self._is_set or self._lock.acquire(timeout=-1 if seconds is None else seconds)
+
+
 class Write:
     """A caller's command on its way into the log."""
 
     __slots__ = ("command", "done", "error", "is_sent", "place", "reply")
 
-    def __init__(self, command: Command, done: Event) -> None:
+    def __init__(self, command: Command, done: Bell) -> None:
         self.command = command
         #: Set where it was answered, or won't be.
         self.done = done
@@ -104,7 +124,9 @@ class State:
         #: Why the database can't be reached, of the thread that appends and the one that follows.
         self.lost: Dict[str, str] = {}
         #: Who waits for a place and takes no thread meanwhile, by places.
-        self._waits: List[Tuple[int, int, Event]] = []
+        self._waits: List[Tuple[int, int, Bell]] = []
+        #: Who looks at each place that is taken.
+        self._looks: Set[Bell] = set()
         self._numbers = count()
         self.writes: Dict[UUID, Write] = {}
         self.queue: Deque[Write] = deque()
@@ -122,7 +144,7 @@ class State:
             if not self.is_closing:
                 self.error = self.error or error
             self.is_closing = self.is_closing or error is None
-            self._wake()
+            self.wake()
             self.ended.set()
             self.work.notify_all()
             for write in self.writes.values():
@@ -136,22 +158,30 @@ class State:
             if write is not None:
                 write.place, write.reply = row.place, reply
                 write.done.set()
-            self._wake()
+            self.wake()
 
-    def _wake(self) -> None:
+    def wake(self) -> None:
         """Who waits hears of the place that was taken, or of the end."""
         self.moved.notify_all()
+        for bell in self._looks:
+            bell.set()
+        self._looks.clear()
         while self._waits and (self.is_over or self._waits[0][0] <= self.taken):
             heappop(self._waits)[2].set()
 
-    def wait(self, place: int, done: Event) -> None:
+    def look(self, done: Bell) -> None:
+        """Has this set when the next place is taken, or what the replica has is newer, or at the end. The lock is held."""
+        self._looks.add(done)
+
+    def wait(self, place: int, done: Bell) -> None:
         """Has this set as soon as a place is taken, or at the end. The lock is held."""
         heappush(self._waits, (place, next(self._numbers), done))
-        self._wake()
+        self.wake()
 
-    def leave(self, done: Event) -> None:
+    def leave(self, done: Bell) -> None:
         """Nobody waits for a place any more."""
         with self.lock:
+            self._looks.discard(done)
             self._waits = [own for own in self._waits if own[2] is not done]
             heapify(self._waits)
 

@@ -6,6 +6,7 @@ or with those of a table.
 """
 
 import argparse
+import atexit
 import contextlib
 import ctypes
 import gc
@@ -44,11 +45,16 @@ _MMAP_THRESHOLD = -3
 FORKS = {"bip34": 0, "cltv": 1, "bip65": 1, "dersig": 2, "bip66": 2, "csv": 3}
 
 
+#: How often it is looked whether the server ends, in seconds.
+LOOK = 0.1
+
+
 def serve(
     node: Node, gate: Gate, hosts: Sequence[str] = ("127.0.0.1",), port: int = 0,
-    ready: Optional[Callable[[int], None]] = None, page: Optional[Page] = None,
+    ready: Optional[Callable[[int], None]] = None, page: Optional[Page] = None, is_ending: Callable[[], bool] = lambda: False,
 ) -> None:  # fmt: skip
-    """Serves until `stop` is called. Port 0 is any that is free; `ready` is called with it once it is bound."""
+    """Serves until `stop` is called, or is_ending answers True. Port 0 is any that is free; `ready` is called with it once it is
+    bound."""
 
     def answered(body: bytes, is_gone: Callable[[], bool]) -> Tuple[int, bytes]:
         node.called_by(is_gone)
@@ -68,11 +74,14 @@ def serve(
             threads.append(threading.Thread(target=server.run, daemon=True))
             threads[-1].start()
         with node.turn:
-            while not node.stopped:
-                node.turn.wait()
+            while not node.stopped and not is_ending():
+                node.turn.wait(LOOK)
         # The answer to `stop` is taken.
-        time.sleep(node.pause + 0.1)
+        until = time.monotonic() + node.pause + LOOK
+        while time.monotonic() < until and not is_ending():
+            time.sleep(LOOK)
     finally:
+        node.end()
         # An interrupt may come before all of them run.
         for server, thread in zip(servers, threads):
             if thread.is_alive():
@@ -312,18 +321,27 @@ def _collect_seldom() -> None:
     gc.set_threshold(100_000, 50, 100)
 
 
-@contextlib.contextmanager
-def _held() -> Iterator[None]:
-    """An interrupt comes behind what is done here, and not amid it."""
-    came: List[int] = []
-    before = {number: signal.signal(number, lambda own, _: came.append(own)) for number in (signal.SIGINT, signal.SIGTERM)}
-    try:
-        yield
-    finally:
-        for number, handler in before.items():
-            signal.signal(number, handler)
-        if came:
+class _Signals:
+    """SIGINT and SIGTERM, from now on. The first one raises KeyboardInterrupt as long as the server is opened; while it serves it is
+    noted. All others change nothing, also while the interpreter ends."""
+
+    def __init__(self) -> None:
+        self.came = False
+        self.raises = True
+        for number in (signal.SIGINT, signal.SIGTERM):
+            signal.signal(number, self._note)
+        atexit.register(self._ignore)
+
+    def _note(self, number: int, frame: object) -> None:
+        is_first, self.came = not self.came, True
+        if is_first and self.raises:
             raise KeyboardInterrupt
+
+    @staticmethod
+    def _ignore() -> None:
+        # The interpreter would have them end the process again.
+        for number in (signal.SIGINT, signal.SIGTERM):
+            signal.signal(number, signal.SIG_IGN)
 
 
 @contextlib.contextmanager
@@ -339,18 +357,18 @@ def _published(given: argparse.Namespace) -> Iterator[Optional[notices.Publisher
         publisher.close()
 
 
-def _run(given: argparse.Namespace, folder: Optional[Folder], cookies: List[Tuple[str, str]]) -> None:
+def _run(given: argparse.Namespace, folder: Optional[Folder], cookies: List[Tuple[str, str]], signals: _Signals) -> None:
     """Serves until the end. The cookies that are written are added."""
     gate, has_cookie = _gate(given)
     with _published(given) as publisher, _bench(given, folder) as bench:
+        signals.raises = False
         if folder:
             print(f"{bench.loaded} commands of {given.datadir} were taken again", flush=True)
         hosts = list(dict.fromkeys(host.strip("[]") for host in given.rpcbind)) or ["127.0.0.1"]
 
         def ready(port: int) -> None:
             if has_cookie:
-                with _held():
-                    cookies.append(_bake(given, gate, port))
+                cookies.append(_bake(given, gate, port))
             print(f"127.0.0.1:{port}" + "".join(f" cookie {path}" for path, _ in cookies), flush=True)
             if given.page:
                 print(f"the page is http://127.0.0.1:{port}{PATH}", flush=True)
@@ -359,27 +377,31 @@ def _run(given: argparse.Namespace, folder: Optional[Folder], cookies: List[Tupl
         node = Node(bench, given.maxmempool * 1_000_000, given.txindex)
         node.publisher = publisher
         node.filters = filters.FilterIndex() if given.blockfilterindex else None
-        serve(node, gate, hosts, given.rpcport, ready, Page(node) if given.page else None)
+        serve(node, gate, hosts, given.rpcport, ready, Page(node) if given.page else None, lambda: signals.came)
         if node.broken:
             raise Error(node.broken)
 
 
 def main(words: Optional[Sequence[str]] = None) -> None:
-    """The command."""
-    given = _given(sys.argv[1:] if words is None else words)
+    """The command, which takes SIGINT and SIGTERM."""
+    signals = _Signals()
     cookies: List[Tuple[str, str]] = []
-    _give_memory_back()
-    signal.signal(signal.SIGTERM, signal.default_int_handler)
     try:
+        given = _given(sys.argv[1:] if words is None else words)
+        _give_memory_back()
         if given.datadir:
             with Folder(given.datadir) as folder:
-                _run(given, folder, cookies)
+                _run(given, folder, cookies, signals)
         else:
-            _run(given, None, cookies)
+            _run(given, None, cookies, signals)
     except (BadFolder, Error, OSError, ValueError, notices.BadNotice) as error:
         sys.exit(f"wakotehu-server: {error}")
     except KeyboardInterrupt:
         pass
+    except RuntimeError:
+        # What it cut short may not have held its lock any more.
+        if not signals.came:
+            raise
     finally:
         for path, password in cookies:
             remove_cookie(path, password)

@@ -131,7 +131,8 @@ def _generate(node: Node, count: int, script: bytes, tries: int) -> List[str]:
     if count > MAX_BLOCKS:
         raise RpcError(MISC_ERROR, f"no more than {MAX_BLOCKS} blocks by one call")
     found: List[str] = []
-    while len(found) < count and tries:
+    # As Bitcoin Core's: the blocks so far are answered where the server ends.
+    while len(found) < count and tries and not (found and node.stopped):
         with node.making():
             with node.mempool.read():
                 chosen = node.mempool.selection(_room(node, script))

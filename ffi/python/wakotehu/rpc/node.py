@@ -18,6 +18,8 @@ if TYPE_CHECKING:
     from .filters import FilterIndex
     from .notices import Publisher
 
+#: How long the end waits for steps that are under way, in seconds.
+SETTLES = 0.3
 #: How often a call that waits looks whether its client is there, in seconds.
 LOOK = 0.5
 
@@ -67,12 +69,18 @@ class Node:
         """One call at a time makes a block, so that each is a child of the one before."""
         while self._is_making:
             self.turn.wait()
+        self.expect_running()
         self._is_making = True
         try:
             yield
         finally:
             self._is_making = False
             self.turn.notify_all()
+
+    def expect_running(self) -> None:
+        """Ends the call where the server ends."""
+        if self.stopped:
+            raise RpcError(MISC_ERROR, self.broken or "The server is stopping")
 
     def called_by(self, is_gone: Callable[[], bool]) -> None:
         """From now on this thread calls for a client that may be gone."""
@@ -90,11 +98,17 @@ class Node:
         with self.turn:
             self.bench.leave()
 
-    def close(self) -> None:
-        """Ends it: what was begun is taken."""
+    def end(self) -> None:
+        """Each call ends soon, and those that come are refused."""
         with self.turn:
             self.stopped = True
-            self.bench.settle()
+            self.turn.notify_all()
+
+    def close(self) -> None:
+        """Ends it: what was begun is taken, if it doesn't take long. Of what isn't, nobody was told."""
+        self.end()
+        with self.turn:
+            self.bench.settle(SETTLES)
 
     def fail(self, why: str) -> RpcError:
         """Ends it for a fault, which is answered from now on."""
@@ -260,8 +274,7 @@ def run(node: Node, method: str, params: Any, calls: Optional[Dict[str, Call]] =
         raise RpcError(METHOD_NOT_FOUND, "Method not found")
     arguments = found.arguments(params)
     with node.turn:
-        if node.stopped:
-            raise RpcError(MISC_ERROR, node.broken or "The server is stopping")
+        node.expect_running()
         node.running[threading.get_ident()] = method, time.monotonic()
         try:
             return found.run(node, *arguments)

@@ -19,6 +19,10 @@ from .values import Object
 HIGH_WATER = 1000
 
 
+#: How long the end waits until all was told, in seconds.
+SOON = 0.3
+
+
 class BadNotice(Exception):
     """A notice that can't be sent, and why."""
 
@@ -75,6 +79,7 @@ class Publisher:
         self._counts: Dict[Notice, int] = dict.fromkeys(notices, 0)
         self._sockets: Dict[str, Any] = {}
         self._context: Any = None
+        self._is_over = False
         if notices:
             self._open()
         self._thread = threading.Thread(target=self._run, daemon=True)
@@ -112,8 +117,10 @@ class Publisher:
         self._steps.put(list(steps))
 
     def close(self) -> None:
-        """Ends when all was told."""
+        """Ends when all was told, or soon."""
         self._steps.put(None)
+        self._thread.join(SOON)
+        self._is_over = True
         self._thread.join()
         self._close()
 
@@ -129,6 +136,8 @@ class Publisher:
             if steps is None:
                 return
             for step in steps:
+                if self._is_over:
+                    return
                 if isinstance(step, Waiting):
                     self._tell_of(step)
                 else:

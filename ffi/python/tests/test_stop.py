@@ -1,0 +1,134 @@
+"""SIGTERM and SIGINT, once and twice, at many moments: the server ends within a second, in order, and says nothing."""
+
+import fcntl
+import os
+import random
+import signal
+import subprocess
+import sys
+import threading
+import time
+import unittest
+
+import test_datadir
+from servers import PROGRAM
+from wakotehu.addresses import spelled
+
+#: How long the end may take, in seconds: of a server that is busy, on a machine that may be.
+END = 1.0
+TERM, INT = signal.SIGTERM, signal.SIGINT
+
+
+class StopTest(test_datadir.FolderCase):
+    def ended(self, server, *signals, pause=0.0):
+        """How long the server takes to end after these signals, which leave nothing behind."""
+        began = time.monotonic()
+        for number in signals:
+            server.process.send_signal(number)
+            time.sleep(pause)
+        told = server.process.communicate(timeout=60)
+        taken = time.monotonic() - began
+        self.assertEqual((server.process.returncode, *told), (0, "", ""))
+        self.assertFalse(os.path.exists(server.cookie))
+        return taken
+
+    def busy(self, server, method, *params):
+        """Has a connection make a call that takes long."""
+        thread = threading.Thread(target=self.asked, args=(server, method, *params), daemon=True)
+        thread.start()
+        self.addCleanup(thread.join, 10)
+        time.sleep(0.7)
+        self.assertTrue(thread.is_alive(), "the call was too short")
+
+    def asked(self, server, method, *params):
+        try:
+            server.call(method, *params)
+        except (OSError, ValueError):
+            pass  # The connection was closed, or what came was cut short.
+
+    def test_amid_long_calls(self):
+        """Once, and as `timeout` of GNU does it, which sends two."""
+        many = [f"raw({place:08x})" for place in range(600_000)]
+        for method, params in (
+            ("generatetoaddress", (30_000, spelled(196, bytes(20)))), ("waitforblock", ("11" * 32,)), ("waitfornewblock", ()),
+            ("waitforblockheight", (10**6, 60_000)), ("scantxoutset", ("start", many)), ("getdescriptorinfo", ("raw(" * 7_000_000,)),
+        ):  # fmt: skip
+            for signals in ((TERM,), (TERM, TERM), (INT, TERM)):
+                with self.subTest(f"{method} {len(signals)}"):
+                    server = self.started()
+                    try:
+                        self.busy(server, method, *params)
+                        self.assertLess(self.ended(server, *signals), END)
+                    finally:
+                        server.process.kill()
+        # Each block that was told of is there, and the next one comes on it.
+        server = self.started()
+        self.assertGreater(server.call("getblockcount"), 10)
+
+    def test_while_others_wait_to_make_blocks(self):
+        server = self.started()
+        for _ in range(3):
+            self.busy(server, "generatetodescriptor", 30_000, "raw(51)")
+        self.assertLess(self.ended(server, TERM, INT, TERM), END)
+
+    def test_after_stop(self):
+        """A server that answers some time longer."""
+        server = self.started()
+        server.call("stop", 60_000)
+        self.assertLess(self.ended(server, INT), END)
+
+    def test_while_a_history_is_taken_again(self):
+        server = self.started()
+        server.call("generatetodescriptor", 3000, "raw(51)")
+        self.ended(server, TERM)
+        chance = random.Random(7)
+        for number in range(12):
+            process = self.command()
+            # A signal before the command's first step ends it as any other program.
+            while self.is_free() and process.poll() is None:
+                time.sleep(0.005)
+            time.sleep(chance.random() * 0.4)
+            began = time.monotonic()
+            process.send_signal((TERM, INT)[number % 2])
+            process.send_signal(TERM)
+            told = process.communicate(timeout=60)
+            self.assertLess(time.monotonic() - began, END)
+            self.assertEqual((process.returncode, told[1]), (0, ""))
+        self.assertEqual(self.started().call("getblockcount"), 3000)
+
+    def is_free(self):
+        """Whether no server has the folder."""
+        with open(os.path.join(self.folder, ".lock"), "rb") as file:
+            try:
+                fcntl.flock(file, fcntl.LOCK_EX | fcntl.LOCK_NB)
+            except BlockingIOError:
+                return False
+        return True
+
+    def command(self):
+        process = subprocess.Popen(
+            [sys.executable, "-m", "wakotehu.server", "-rpcport=0", f"-datadir={self.folder}"], stdout=subprocess.PIPE,
+            stderr=subprocess.PIPE, text=True, env={**os.environ, "WAKOTEHU_PROGRAM": PROGRAM},
+        )  # fmt: skip
+        self.addCleanup(process.kill)
+        return process
+
+    def test_a_second_one_at_many_moments(self):
+        """From the first one on until the process is gone."""
+        chance = random.Random(8)
+        for number in range(25):
+            server = self.started()
+            self.busy_for_a_while(server)
+            server.process.send_signal(TERM)
+            for _ in range(12):
+                time.sleep(chance.random() * 0.06)
+                server.process.send_signal((TERM, INT)[chance.randrange(2)])
+            with self.subTest(number):
+                self.assertLess(self.ended(server, TERM), END)
+
+    def busy_for_a_while(self, server):
+        threading.Thread(target=self.asked, args=(server, "generatetodescriptor", 20_000, "raw(51)"), daemon=True).start()
+
+
+if __name__ == "__main__":
+    unittest.main()
