@@ -435,6 +435,55 @@ class ShownTest(CallsTest):
         self.assertTrue(self.call("help", "getblock").startswith("getblock blockhash ( verbosity )"))
 
 
+class KeysTest(CallsTest):
+    """Codes and texts are those of Bitcoin Core 0.21: of litecoind with a wallet, and of its source for types that no wallet has."""
+
+    def test_two_askers_get_two_addresses(self):
+        first, second = self.call("getnewaddress"), self.call("getnewaddress", "label", "legacy")
+        self.assertNotEqual(first, second)
+        self.assertEqual(self.call("getnewaddress", None, None)[0] in "mn", True)
+        # What is paid to it is spent by the key.
+        [block] = self.call("generatetoaddress", 1, first)
+        self.call("generatetodescriptor", 100, "raw(51)")
+        [coinbase] = self.call("getblock", block)["tx"]
+        raw = self.call("createrawtransaction", [{"txid": coinbase, "vout": 0}], {second: 49})
+        other = self.call("signrawtransactionwithkey", raw, [self.call("dumpprivkey", second)])
+        self.assertFalse(other["complete"])
+        spending = self.call("signrawtransactionwithkey", raw, [self.call("dumpprivkey", first)])
+        self.assertTrue(spending["complete"])
+        [mined] = [self.call("sendrawtransaction", spending["hex"]), self.call("generatetodescriptor", 1, "raw(51)")][1]
+        self.assertEqual(self.call("getblock", mined, 2)["tx"][1]["vout"][0]["scriptPubKey"]["addresses"], [second])
+
+    def test_refused(self):
+        script = "2N3oefVeg6stiTb5Kh3ozCSkaqmx91FDbsm"
+        self.assertTrue(self.call("validateaddress", script)["isscript"])
+        unknown = "mipcBbFg9gMiCh81Kj8tqqdgoZub1ZJRfn"
+        for words, code, message in (
+            (("getnewaddress", "", "bech32"), -12, "Error: No bech32 addresses available."),
+            (("getnewaddress", "", "p2sh-segwit"), -12, "Error: No p2sh-segwit addresses available."),
+            (("getnewaddress", "", "x"), -5, "Unknown address type 'x'"), (("getnewaddress", "*", "x"), -11, "Invalid label name"),
+            (("getnewaddress", 5), -1, "JSON value is not a string as expected"),
+            (("getnewaddress", "", 5), -1, "JSON value is not a string as expected"), (("dumpprivkey", "x"), -5, "Invalid Bitcoin address"),
+            (("dumpprivkey", unknown), -4, f"Private key for address {unknown} is not known"),
+            (("dumpprivkey", script), -3, "Address does not refer to a key"), (("getmemoryinfo", "x"), -8, "unknown mode x"),
+            (("addnode", "127.0.0.1", "add"), -31, "Error: Peer-to-peer functionality missing or disabled"),
+        ):  # fmt: skip
+            error = self.call(*words)
+            self.assertEqual((error["code"], error["message"]), (code, message))
+        self.assertEqual(self.call("addnode", "127.0.0.1", "x")["code"], -1)
+
+    def test_no_peers(self):
+        self.assertIsNone(self.call("ping"))
+        totals = self.call("getnettotals")
+        self.assertEqual((totals["totalbytesrecv"], totals["totalbytessent"], totals["uploadtarget"]["target"]), (0, 0, 0))
+        self.assertEqual(set(self.call("getmemoryinfo")["locked"].values()), {0})
+
+    def test_uptime_is_by_the_clock_that_is_set(self):
+        self.assertLess(self.call("uptime"), 600)
+        self.call("setmocktime", 1296688700)
+        self.assertAlmostEqual(self.call("uptime"), 1296688700 - time.time(), delta=600)
+
+
 class CommandLineTest(CallsTest):
     @unittest.skipUnless(shutil.which("litecoin-cli") or shutil.which("bitcoin-cli"), "no client is installed")
     def test_a_client_of_bitcoind(self):

@@ -22,8 +22,8 @@ from .errors import Error
 from .nodebench import SEATS, NodeBench
 from .replicabench import ReplicaBench
 from .rpc import (
-    addresses, blockchain, chain, control, descriptors, filters, making, mining, notices, proofs, sending, settings, signing, stats,
-    template, txs, waiting,
+    addresses, blockchain, chain, control, descriptors, filters, keys, making, mining, notices, proofs, sending, settings, signing,
+    stats, template, txs, waiting,
 )  # fmt: skip
 from .rpc.auth import COOKIE_USER, Gate, remove_cookie, write_cookie
 from .rpc.datadir import BadFolder, Folder, Opening
@@ -36,8 +36,8 @@ from .version import __version__
 
 #: The modules that put calls into the table.
 MODULES = (
-    addresses, blockchain, chain, control, descriptors, filters, making, mining, notices, proofs, sending, signing, stats, template,
-    txs, waiting,
+    addresses, blockchain, chain, control, descriptors, filters, keys, making, mining, notices, proofs, sending, signing, stats,
+    template, txs, waiting,
 )  # fmt: skip
 #: M_MMAP_THRESHOLD of glibc's malloc.h.
 _MMAP_THRESHOLD = -3

@@ -3,13 +3,10 @@
 import time
 from typing import Any, Dict, List, Optional, Set, Tuple
 
-from ..encoding import hash160
 from ..version import __version__
-from .errors import INVALID_PARAMETER, RpcError
+from .errors import INVALID_PARAMETER, MISC_ERROR, P2P_DISABLED, RpcError
 from .node import CALLS, Node, call
-from ..addresses import spelled as address
-from .scripts import SCRIPT_PREFIX
-from .values import Amount, Object, integer, text
+from .values import Amount, Object, integer, shortened, text
 
 
 @call("Control", "command")
@@ -27,8 +24,8 @@ def help(node: Node, command: Any) -> str:
 
 @call("Control")
 def uptime(node: Node) -> int:
-    """How many seconds the server runs."""
-    return int(time.time() - node.started)
+    """How many seconds the server runs, by its clock, which setmocktime sets."""
+    return node.now() - int(node.started)
 
 
 @call("Control", "wait")
@@ -123,15 +120,6 @@ def estimatesmartfee(node: Node, conf_target: Any, estimate_mode: Any) -> Object
     return {"errors": ["Insufficient data or no feerate found"], "blocks": 0}
 
 
-# ---- no wallet
-
-
-@call("Wallet", "label", "address_type")
-def getnewaddress(node: Node, label: Any, address_type: Any) -> str:
-    """An address for bitcoin-cli's -generate. There is no wallet: it is the address of the script 51, which anyone spends."""
-    return address(SCRIPT_PREFIX, hash160(b"\x51"))
-
-
 # ---- no peers
 
 
@@ -168,3 +156,42 @@ def getpeerinfo(node: Node) -> List[Object]:
 def getconnectioncount(node: Node) -> int:
     """How many peers there are: none."""
     return 0
+
+
+@call("Network")
+def ping(node: Node) -> None:
+    """Asks the peers how long an answer takes: there are none to ask."""
+
+
+@call("Network")
+def getnettotals(node: Node) -> Object:
+    """How many bytes went to peers and came from them: none."""
+    return {
+        "totalbytesrecv": 0,
+        "totalbytessent": 0,
+        "timemillis": int(time.time() * 1000),
+        "uploadtarget": {
+            "timeframe": 86400, "target": 0, "target_reached": False, "serve_historical_blocks": True,
+            "bytes_left_in_cycle": 0, "time_left_in_cycle": 0,
+        },  # fmt: skip
+    }
+
+
+@call("Network", "node", "command", needed=2)
+def addnode(own: Node, node: Any, command: Any) -> None:
+    """Refused: there are no peers."""
+    text(node)
+    if text(command) not in ("add", "remove", "onetry"):
+        raise RpcError(MISC_ERROR, f"{CALLS['addnode'].usage}\n\n{CALLS['addnode'].about}\n")
+    raise RpcError(P2P_DISABLED, "Error: Peer-to-peer functionality missing or disabled")
+
+
+@call("Control", "mode")
+def getmemoryinfo(node: Node, mode: Any) -> Object:
+    """The memory that is locked, so that keys aren't swapped to the disk: none."""
+    kind = "stats" if mode is None else text(mode)
+    if kind == "mallocinfo":
+        raise RpcError(INVALID_PARAMETER, "mallocinfo is only available when compiled with glibc 2.10+")
+    if kind != "stats":
+        raise RpcError(INVALID_PARAMETER, f"unknown mode {shortened(kind)}")
+    return {"locked": dict.fromkeys(("used", "free", "total", "locked", "chunks_used", "chunks_free"), 0)}
