@@ -446,12 +446,13 @@ class KeysTest(CallsTest):
         [block] = self.call("generatetoaddress", 1, first)
         self.call("generatetodescriptor", 100, "raw(51)")
         [coinbase] = self.call("getblock", block)["tx"]
-        raw = self.call("createrawtransaction", [{"txid": coinbase, "vout": 0}], {second: 49})
+        raw = self.call("createrawtransaction", [{"txid": coinbase, "vout": 0}], {second: 49.999})
         other = self.call("signrawtransactionwithkey", raw, [self.call("dumpprivkey", second)])
         self.assertFalse(other["complete"])
         spending = self.call("signrawtransactionwithkey", raw, [self.call("dumpprivkey", first)])
         self.assertTrue(spending["complete"])
-        [mined] = [self.call("sendrawtransaction", spending["hex"]), self.call("generatetodescriptor", 1, "raw(51)")][1]
+        self.assertEqual(len(self.call("sendrawtransaction", spending["hex"])), 64)
+        [mined] = self.call("generatetodescriptor", 1, "raw(51)")
         self.assertEqual(self.call("getblock", mined, 2)["tx"][1]["vout"][0]["scriptPubKey"]["addresses"], [second])
 
     def test_refused(self):

@@ -3,7 +3,7 @@
 import math
 import random
 import threading
-from typing import Callable, Dict, List, Optional, Tuple, TypeVar
+from typing import Callable, Dict, List, Optional, Sequence, Tuple, TypeVar
 
 from .arguments import id_of, octets
 from .chainstate import Coin, Reply, Tip
@@ -38,6 +38,7 @@ class ReplicaBench(NodeBench):
         self.index = Index()
         self.turn = threading.Condition(threading.Lock())
         self.steps = self.loaded = 0
+        self._listing = 0
         self.moved = lambda move: None
         self._cut = None
         self._data: Dict[bytes, bytes] = {}
@@ -73,6 +74,8 @@ class ReplicaBench(NodeBench):
         id = command.data if command.command != "submit" else double_sha(command.data[:80])
         best = seat.getbestblockhash().value
         with self.turn:
+            while self._listing:
+                self.turn.wait()
             if spelled is not None and id not in self.index.blocks and self._is_kept_by(seat, id, spelled, reply):
                 self._data[id] = command.data
                 self.index.add(id, spelled)
@@ -114,11 +117,16 @@ class ReplicaBench(NodeBench):
     def judge_spelled(self, spelled: Spelled, now: int) -> Reply:
         """As `NodeBench.judge_spelled`."""
         found = self._ask(lambda seat: seat.judge(spelled.data, now))
-        while found.value.reply != "accepted" and self.steps < found.at:
-            # The node took rows that aren't taken up here; where the replica has stopped none will be.
+        if found.value.reply != "accepted":
+            self._wait_until_taken(found.at)
+        return found.value
+
+    def _wait_until_taken(self, place: int) -> None:
+        """Waits until all rows up to a place are taken up here."""
+        while self.steps < place:
+            # The node took them; where the replica has stopped they won't be taken up.
             self.turn.wait(0.5)
             self.replica.status()
-        return found.value
 
     # ---- reads
 
@@ -148,10 +156,37 @@ class ReplicaBench(NodeBench):
                 value, script, height, coinbase, confirmations = found.value
                 return Unspent(Coin(value, script, height, coinbase), best.value, confirmations)
 
+    def coins_at(self, outpoints: Sequence[Tuple[bytes, int]]) -> List[Optional[Coin]]:
+        """As `NodeBench.coins_at`."""
+
+        def ask(seat: ReplicaSeat) -> Placed[List[Optional[Coin]]]:
+            answers = seat.gettxouts(outpoints)
+            return Placed(answers[-1].at, [None if it.value is None else Coin(*it.value[:4]) for it in answers])
+
+        if not outpoints:
+            return []
+        found = self._ask(ask)
+        if None in found.value:
+            self._wait_until_taken(found.at)
+        return found.value
+
     def coins(self) -> Tuple[bytes, Coins]:
         """As `NodeBench.coins`. The thread that takes rows waits, so that all parts of the list are of one place."""
-        seat = self.replica.seat(self._number())
-        seat.told(self.steps)
+        seat, place = self.replica.seat(self._number()), self.steps
+        self._listing += 1
+        try:
+            with self.others():
+                best, found = self._listed(seat, place)
+        finally:
+            self._listing -= 1
+            self.turn.notify_all()
+        self._wait_until_taken(best.at)
+        return best.value, found
+
+    @staticmethod
+    def _listed(seat: ReplicaSeat, place: int) -> Tuple[Placed[bytes], Coins]:
+        """The active block and all coins of one place, which isn't below this one."""
+        seat.told(place)
         for _ in range(_TRIES):
             best = seat.getbestblockhash()
             found: Coins = []
@@ -160,7 +195,7 @@ class ReplicaBench(NodeBench):
                 found += part.value
                 part = seat.coins(found[-1][:2])
             if part.at == best.at:
-                return best.value, found
+                return best, found
         raise Error("the history goes on faster than its coins can be listed")
 
     def block(self, id: bytes) -> Optional[bytes]:

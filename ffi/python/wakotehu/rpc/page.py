@@ -9,8 +9,9 @@ from itertools import islice
 from typing import Any, Callable, Dict, List, NamedTuple, Optional, Tuple
 from urllib.parse import parse_qsl, urlsplit
 
+from .. import consensus
 from ..chainstate import read_id, show
-from ..encoding import Output, Transaction, read_block
+from ..encoding import Output, Transaction, block_at_front, outlines
 from ..nodebench import Coins
 from .blockchain import header_fields
 from .errors import INVALID_ADDRESS_OR_KEY, METHOD_NOT_FOUND, RpcError
@@ -58,7 +59,7 @@ class Page:
         parts = urlsplit(path)
         self.node.called_by(is_gone)
         try:
-            status, found = 200, run(self.node, parts.path[len(ASKED) :], dict(parse_qsl(parts.query)), ASKS)
+            status, found = 200, run(self.node, parts.path[len(ASKED) :], dict(parse_qsl(parts.query, keep_blank_values=True)), ASKS)
         except RpcError as error:
             status = 404 if error.code in (INVALID_ADDRESS_OR_KEY, METHOD_NOT_FOUND) else 500
             found = {"error": str(error)}
@@ -117,8 +118,8 @@ def block(node: Node, id: Any) -> Object:
     kept = node.kept(digits(id, "id"))
     fields, data = header_fields(node, kept), node.data(kept.id)
     with node.others():
-        txs = read_block(data).transactions
-        rows = [[show(tx.id), len(tx.inputs), len(tx.outputs), sum(it.value for it in tx.outputs)] for tx in txs[:MOST]]
+        txs = zip(block_at_front(data).ids, outlines(data))
+        rows = [[show(tx), len(its.spends), len(its.outputs), its.value] for tx, its in islice(txs, MOST)]
     return {**fields, "size": kept.size, "transactions": rows}
 
 
@@ -139,7 +140,8 @@ def transaction(node: Node, id: Any) -> Object:
         "height": None if kept is None else kept.height,
         "confirmations": node.tip().height - kept.height + 1 if kept is not None and active else 0,
         "inputs": _inputs(node, tx),
-        "outputs": [_output(it, _is_unspent(node, name, place)) for place, it in enumerate(tx.outputs[:MOST])],
+        "value": sum(it.value for it in tx.outputs),
+        "outputs": [_output(it, state) for it, state in zip(tx.outputs, _states(node, name, tx))],
         "more": max(0, len(tx.inputs) - MOST) + max(0, len(tx.outputs) - MOST),
     }
 
@@ -178,8 +180,11 @@ def _output(output: Output, is_unspent: Optional[bool]) -> Object:
     return {"value": output.value, "script": _shown(output.script), "unspent": is_unspent}
 
 
-def _is_unspent(node: Node, id: bytes, place: int) -> bool:
-    return node.bench.unspent(id, place) is not None
+def _states(node: Node, id: bytes, tx: Transaction) -> List[Optional[bool]]:
+    """Whether each output is a coin; None where it can never be one."""
+    outputs = tx.outputs[:MOST]
+    coins = node.bench.coins_at([(id, place) for place in range(len(outputs))])
+    return [None if consensus.script(it.script).unspendable else coin is not None for it, coin in zip(outputs, coins)]
 
 
 def _shown(script: bytes) -> Object:
