@@ -10,6 +10,7 @@
 #include <string.h>
 
 uint32_t ffi_tx(const uint8_t *bytes, size_t length, wakotehu_transaction *shown);
+uint32_t ffi_tx_check(const uint8_t *bytes, size_t length, uint32_t *reason);
 uint32_t ffi_tx_final(const uint8_t *bytes, size_t length, uint32_t height, uint32_t cutoff, uint32_t *yes);
 uint32_t ffi_tx_locks(const uint8_t *bytes, size_t length, const wakotehu_start *starts, size_t count, uint32_t height,
                       uint32_t cutoff, uint32_t *yes);
@@ -90,6 +91,15 @@ static bool rows_fit(const void *rows, size_t count, size_t size) {
     return (rows || !count) && count <= PTRDIFF_MAX / size;
 }
 
+/* Whether flags have a bit that is no rule's. */
+static bool has_unknown(uint32_t flags) {
+    return flags & ~(uint32_t)(WAKOTEHU_VERIFY_P2SH | WAKOTEHU_VERIFY_DERSIG | WAKOTEHU_VERIFY_CHECKLOCKTIMEVERIFY
+                               | WAKOTEHU_VERIFY_CHECKSEQUENCEVERIFY);
+}
+
+/* Whether each flag is 0 or 1. */
+static bool are_plain(const wakotehu_flags *flags) { return (flags->dersig | flags->cltv | flags->csv) <= 1; }
+
 #define AT(bytes, length) ((length) ? (bytes) : (const void *)nothing)
 #define INTO(room, length) ((length) ? (room) : (void *)nothing)
 
@@ -97,6 +107,12 @@ wakotehu_code wakotehu_read_transaction(const uint8_t *bytes, size_t length, wak
     if (!readable(bytes, length) || !shown)
         return WAKOTEHU_NULL;
     return (wakotehu_code)ffi_tx(AT(bytes, length), length, shown);
+}
+
+wakotehu_code wakotehu_check_transaction(const uint8_t *bytes, size_t length, uint32_t *reason) {
+    if (!readable(bytes, length) || !reason)
+        return WAKOTEHU_NULL;
+    return (wakotehu_code)ffi_tx_check(AT(bytes, length), length, reason);
 }
 
 wakotehu_code wakotehu_is_final(const uint8_t *bytes, size_t length, uint32_t height, uint32_t cutoff, uint32_t *yes) {
@@ -303,6 +319,8 @@ wakotehu_code wakotehu_verify(const uint8_t *bytes, size_t length, uint64_t inpu
     if (!readable(bytes, length) || !readable(spent, spent_length) || !flags || !readable(table, table_length)
         || !accepted)
         return WAKOTEHU_NULL;
+    if (!are_plain(flags))
+        return WAKOTEHU_FLAGS;
     return (wakotehu_code)ffi_verify(AT(bytes, length), length, input, AT(spent, spent_length), spent_length, flags,
                                      AT(table, table_length), table_length, line ? line : &unasked, accepted);
 }
@@ -315,6 +333,8 @@ wakotehu_code wakotehu_verify_known(const uint8_t *bytes, size_t length, uint64_
     if (!readable(bytes, length) || !readable(spent, spent_length) || !flags || !readable(valid, valid_length)
         || !readable(invalid, invalid_length) || !accepted || !readable(asked, room) || !needed)
         return WAKOTEHU_NULL;
+    if (!are_plain(flags))
+        return WAKOTEHU_FLAGS;
     return (wakotehu_code)ffi_verify_known(AT(bytes, length), length, input, AT(spent, spent_length), spent_length,
                                            flags, AT(valid, valid_length), valid_length, AT(invalid, invalid_length),
                                            invalid_length, line ? line : &unasked, accepted, INTO(asked, room), room,
@@ -329,6 +349,8 @@ wakotehu_code wakotehu_verify_script(const uint8_t *bytes, size_t length, uint64
     if (!readable(bytes, length) || !readable(spent, spent_length) || !readable(valid, valid_length)
         || !readable(invalid, invalid_length) || !error || !readable(asked, room) || !needed)
         return WAKOTEHU_NULL;
+    if (has_unknown(flags))
+        return WAKOTEHU_FLAGS;
     return (wakotehu_code)ffi_verify_script(AT(bytes, length), length, input, AT(spent, spent_length), spent_length,
                                             flags, AT(valid, valid_length), valid_length, AT(invalid, invalid_length),
                                             invalid_length, line ? line : &unasked, error, INTO(asked, room), room,
@@ -342,11 +364,16 @@ wakotehu_code wakotehu_eval_script(const uint8_t *bytes, size_t length, uint64_t
                                    wakotehu_evaluated *evaluated, uint64_t *left_sizes, size_t most_sizes,
                                    uint8_t *left, size_t most, char *asked, size_t room, uint64_t *needed) {
     uint64_t unasked;
+    /* Who doesn't look at the code sees no run that succeeded. */
+    if (evaluated)
+        *evaluated = (wakotehu_evaluated){0, 0, WAKOTEHU_SCRIPT_UNKNOWN_ERROR};
     if (!readable(bytes, length) || !readable(script, script_length) || !rows_fit(sizes, count, sizeof *sizes)
         || !readable(elements, elements_length) || !readable(valid, valid_length)
         || !readable(invalid, invalid_length) || !evaluated || !rows_fit(left_sizes, most_sizes, sizeof *left_sizes)
         || !readable(left, most) || !readable(asked, room) || !needed)
         return WAKOTEHU_NULL;
+    if (has_unknown(flags))
+        return WAKOTEHU_FLAGS;
     return (wakotehu_code)ffi_eval_script(
         AT(bytes, length), length, input, AT(script, script_length), script_length, flags, AT(sizes, count), count,
         AT(elements, elements_length), elements_length, AT(valid, valid_length), valid_length,

@@ -1,12 +1,14 @@
 /*
  * The calls that users make. This file is trusted: nothing proves it. It checks its arguments, names chainstates,
- * transactions and sets of coins by numbers, and lets one call at a time into each; the work is done by the proved functions ffi_*, of
- * crates/ffi.
+ * transactions and sets of coins by numbers, and lets one call at a time into each, or any that read a transaction; the
+ * work is done by the proved functions ffi_*, of crates/ffi.
  *
  * What it owes them: each pointer points to what its type says and to nothing that another argument points to; a slot
  * is zero bytes at first and is written by them alone; one call at a time uses a slot, and the next one sees all that
  * it wrote (the words below are read and written in one order by all threads). What is in a slot may go from thread
- * to thread: crates/ffi has the prover show it.
+ * to thread: crates/ffi has the prover show it. Several calls get copies of a transaction's slot at once: crates/ffi shows that
+ * threads may share it, and that each leaves it as it was; that none writes to it meanwhile rests on its calls, which only
+ * borrow it.
  */
 #include "wakotehu.h"
 
@@ -118,6 +120,7 @@ uint32_t ffi_disconnect(struct slot *slot);
 uint32_t ffi_check_tx_inputs(struct slot *slot, const uint8_t *bytes, size_t length, uint32_t height,
                              struct inputs_told *told);
 
+uint32_t ffi_tx_check(const uint8_t *bytes, size_t length, uint32_t *reason);
 uint32_t ffi_tx_read(struct slot *slot, const uint8_t *bytes, size_t length, uint64_t *used);
 uint32_t ffi_tx_read_whole(struct slot *slot, const uint8_t *bytes, size_t length);
 uint32_t ffi_tx_free(struct slot *slot);
@@ -144,39 +147,117 @@ _Static_assert(sizeof(wakotehu_coin) == 24, "as ShownCoin");
 _Static_assert(sizeof(wakotehu_header_shown) == 96 && offsetof(wakotehu_header_shown, height) == 80, "as ShownHeader");
 _Static_assert(sizeof(wakotehu_spent_size) == 16, "as ShownSpent");
 
-/* ---- handles. A handle is the number of an opening, and below it the place: in one byte that of a chainstate or of a set
- * of coins, in two that of a transaction. The word of a place is the number of its last opening, and below it in two bits what it is.
- * Places are never given back. */
+/* ---- handles. A handle has its kind in its highest bits but two; below it the number of an opening, and below that the
+ * place: in one byte that of a chainstate or of a set of coins, in two that of a transaction. The word of a place is the number
+ * of its last opening, and below it in 16 bits how many calls read it, and in two what it is. Places are never given back.
+ *
+ * A transaction never changes, so calls share it: each gets a copy of its slot, from which the proved functions take the
+ * box and into which they put it back; they only read what is in it. */
 
 enum { FREE = 0, OPEN = 1, IN_USE = 2 };
+enum { NUMBER_BITS = 44, KIND_AT = 60, MOST_READERS = 65535 };
 
-static struct chain {
+struct held {
     _Atomic uint64_t word;
     struct slot slot;
-} chains[WAKOTEHU_MOST], sets[WAKOTEHU_MOST];
+};
 
-static uint64_t word_of(uint64_t number, uint64_t state) { return number << 2 | state; }
+static struct held chains[WAKOTEHU_MOST], sets[WAKOTEHU_MOST], parsed[WAKOTEHU_MOST_TRANSACTIONS];
 
-/* Lets this call into a place that was opened by this number, or says why not. */
-static wakotehu_code enter_place(_Atomic uint64_t *word, uint64_t number) {
-    uint64_t found = word_of(number, OPEN);
-    if (number == 0 || number >> 54 != 0)
+_Static_assert(WAKOTEHU_MOST == 1 << 8 && WAKOTEHU_MOST_TRANSACTIONS == 1 << 16, "a place is a byte of a handle, or two");
+
+enum kind { CHAIN = 1, SET = 2, TRANSACTION = 3 };
+
+/* The places of a kind, and in how many bits of a handle one is named. */
+static const struct places {
+    struct held *all;
+    unsigned bits;
+} places_of[] = {[CHAIN] = {chains, 8}, [SET] = {sets, 8}, [TRANSACTION] = {parsed, 16}};
+
+static uint64_t word_of(uint64_t number, uint64_t readers, uint64_t state) { return number << 18 | readers << 2 | state; }
+
+static uint64_t number_in(uint64_t word) { return word >> 18; }
+
+static uint64_t readers_in(uint64_t word) { return word >> 2 & MOST_READERS; }
+
+static wakotehu_handle handle_of(enum kind kind, uint64_t number, uint64_t place) {
+    return (uint64_t)kind << KIND_AT | number << places_of[kind].bits | place;
+}
+
+static uint64_t place_in(enum kind kind, wakotehu_handle handle) { return handle & ((1u << places_of[kind].bits) - 1); }
+
+/* The place that a handle of this kind names, and the number of its opening. */
+static struct held *held_at(enum kind kind, wakotehu_handle handle) {
+    return &places_of[kind].all[place_in(kind, handle)];
+}
+
+static uint64_t opening_in(enum kind kind, wakotehu_handle handle) {
+    return (handle & (((uint64_t)1 << KIND_AT) - 1)) >> places_of[kind].bits;
+}
+
+/* Why a handle isn't one of this kind, or WAKOTEHU_OK: it was given out as one of another kind, or never. */
+static wakotehu_code look_at_kind(enum kind kind, wakotehu_handle handle) {
+    uint64_t found = handle >> KIND_AT;
+    if (found < CHAIN || found > TRANSACTION)
         return WAKOTEHU_CLOSED;
-    if (atomic_compare_exchange_strong(word, &found, word_of(number, IN_USE)))
+    uint64_t number = opening_in((enum kind)found, handle);
+    if (number == 0 || number > number_in(atomic_load(&held_at((enum kind)found, handle)->word)))
+        return WAKOTEHU_CLOSED;
+    return found == (uint64_t)kind ? WAKOTEHU_OK : WAKOTEHU_HANDLE;
+}
+
+/* Lets this call alone into what a handle names, or says why not. */
+static wakotehu_code enter_alone(enum kind kind, wakotehu_handle handle) {
+    wakotehu_code code = look_at_kind(kind, handle);
+    if (code != WAKOTEHU_OK)
+        return code;
+    uint64_t number = opening_in(kind, handle), found = word_of(number, 0, OPEN);
+    if (atomic_compare_exchange_strong(&held_at(kind, handle)->word, &found, word_of(number, 0, IN_USE)))
         return WAKOTEHU_OK;
-    return found == word_of(number, IN_USE) ? WAKOTEHU_BUSY : WAKOTEHU_CLOSED;
+    return number_in(found) == number && (found & 3) != FREE ? WAKOTEHU_BUSY : WAKOTEHU_CLOSED;
+}
+
+/* Lets the next call in, and hands the code on. */
+static wakotehu_code leave_alone(enum kind kind, wakotehu_handle handle, uint32_t code) {
+    atomic_store(&held_at(kind, handle)->word, word_of(opening_in(kind, handle), 0, OPEN));
+    return (wakotehu_code)code;
+}
+
+/* Gives a place back whose memory was given back. */
+static wakotehu_code leave_free(enum kind kind, wakotehu_handle handle, uint32_t code) {
+    atomic_store(&held_at(kind, handle)->word, word_of(opening_in(kind, handle), 0, FREE));
+    return (wakotehu_code)code;
+}
+
+/* Lets this call into a transaction beside others that read it, with a slot of its own, or says why not. */
+static wakotehu_code enter_shared(wakotehu_tx tx, struct slot *own) {
+    wakotehu_code code = look_at_kind(TRANSACTION, tx);
+    if (code != WAKOTEHU_OK)
+        return code;
+    struct held *held = held_at(TRANSACTION, tx);
+    uint64_t number = opening_in(TRANSACTION, tx), found = atomic_load(&held->word);
+    do {
+        /* One that is in use is on its way out. */
+        if (number_in(found) != number || (found & 3) != OPEN)
+            return WAKOTEHU_CLOSED;
+        if (readers_in(found) == MOST_READERS)
+            return WAKOTEHU_BUSY;
+    } while (!atomic_compare_exchange_weak(&held->word, &found, word_of(number, readers_in(found) + 1, OPEN)));
+    *own = held->slot;
+    return WAKOTEHU_OK;
+}
+
+static wakotehu_code leave_shared(wakotehu_tx tx, uint32_t code) {
+    atomic_fetch_sub(&held_at(TRANSACTION, tx)->word, word_of(0, 1, 0));
+    return (wakotehu_code)code;
 }
 
 /* Lets this call into the chainstate of a handle. */
-static wakotehu_code enter(wakotehu_handle handle) { return enter_place(&chains[handle & 255].word, handle >> 8); }
+static wakotehu_code enter(wakotehu_handle handle) { return enter_alone(CHAIN, handle); }
 
-static struct slot *slot_of(wakotehu_handle handle) { return &chains[handle & 255].slot; }
+static struct slot *slot_of(wakotehu_handle handle) { return &held_at(CHAIN, handle)->slot; }
 
-/* Lets the next call in, and hands the code on. */
-static wakotehu_code leave(wakotehu_handle handle, uint32_t code) {
-    atomic_store(&chains[handle & 255].word, word_of(handle >> 8, OPEN));
-    return (wakotehu_code)code;
-}
+static wakotehu_code leave(wakotehu_handle handle, uint32_t code) { return leave_alone(CHAIN, handle, code); }
 
 /* ---- what the caller gives */
 
@@ -189,7 +270,7 @@ static bool readable(const void *bytes, size_t length) { return (bytes || !lengt
 
 /* What is opened: by a table, or by need, or as another one is; or a set of coins. */
 struct opening {
-    struct chain *places;
+    enum kind kind;
     const wakotehu_heights *heights;
     const uint8_t *table;
     size_t length;
@@ -199,7 +280,7 @@ struct opening {
 };
 
 static uint32_t open_slot(struct slot *slot, const struct opening *asked) {
-    if (asked->places == sets)
+    if (asked->kind == SET)
         return ffi_utxo_open(slot);
     if (asked->copied)
         return ffi_copy(asked->copied, slot);
@@ -208,21 +289,27 @@ static uint32_t open_slot(struct slot *slot, const struct opening *asked) {
     return ffi_open(slot, asked->heights, asked->table, asked->length, asked->line);
 }
 
+/* The next opening in a place of a kind, for this call alone; 0 where the place isn't free. */
+static uint64_t take_place(enum kind kind, uint64_t place) {
+    struct held *held = &places_of[kind].all[place];
+    uint64_t word = atomic_load(&held->word), number = number_in(word) + 1;
+    if ((word & 3) != FREE || number >> NUMBER_BITS != 0)
+        return 0;
+    return atomic_compare_exchange_strong(&held->word, &word, word_of(number, 0, IN_USE)) ? number : 0;
+}
+
 /* Opens in the first place that is free. */
 static wakotehu_code open_place(wakotehu_handle *handle, const struct opening *asked) {
     for (uint64_t place = 0; place < WAKOTEHU_MOST; place++) {
-        struct chain *free_place = &asked->places[place];
-        uint64_t word = atomic_load(&free_place->word);
-        wakotehu_handle made = ((word >> 2) + 1) << 8 | place;
-        if ((word & 3) != FREE || made >> 62 != 0)
+        uint64_t number = take_place(asked->kind, place);
+        if (number == 0)
             continue;
-        if (!atomic_compare_exchange_strong(&free_place->word, &word, word_of(made >> 8, IN_USE)))
-            continue;
-        uint32_t code = open_slot(&free_place->slot, asked);
-        if (code == WAKOTEHU_OK)
-            *handle = made;
-        atomic_store(&free_place->word, word_of(made >> 8, code == WAKOTEHU_OK ? OPEN : FREE));
-        return (wakotehu_code)code;
+        wakotehu_handle made = handle_of(asked->kind, number, place);
+        uint32_t code = open_slot(&held_at(asked->kind, made)->slot, asked);
+        if (code != WAKOTEHU_OK)
+            return leave_free(asked->kind, made, code);
+        *handle = made;
+        return leave_alone(asked->kind, made, code);
     }
     return WAKOTEHU_TOO_MANY;
 }
@@ -233,13 +320,13 @@ wakotehu_code wakotehu_open(wakotehu_handle *handle, const wakotehu_heights *hei
     if (!handle || !heights || !readable(table, length))
         return WAKOTEHU_NULL;
     const uint8_t *bytes = length ? (const uint8_t *)table : no_bytes;
-    return open_place(handle, &(struct opening){chains, heights, bytes, length, line ? line : &unasked, false, NULL});
+    return open_place(handle, &(struct opening){CHAIN, heights, bytes, length, line ? line : &unasked, false, NULL});
 }
 
 wakotehu_code wakotehu_open_by_need(wakotehu_handle *handle, const wakotehu_heights *heights) {
     if (!handle || !heights)
         return WAKOTEHU_NULL;
-    return open_place(handle, &(struct opening){chains, heights, no_bytes, 0, NULL, true, NULL});
+    return open_place(handle, &(struct opening){CHAIN, heights, no_bytes, 0, NULL, true, NULL});
 }
 
 wakotehu_code wakotehu_copy(wakotehu_handle handle, wakotehu_handle *copy) {
@@ -248,16 +335,14 @@ wakotehu_code wakotehu_copy(wakotehu_handle handle, wakotehu_handle *copy) {
     wakotehu_code code = enter(handle);
     if (code != WAKOTEHU_OK)
         return code;
-    return leave(handle, open_place(copy, &(struct opening){chains, NULL, no_bytes, 0, NULL, false, slot_of(handle)}));
+    return leave(handle, open_place(copy, &(struct opening){CHAIN, NULL, no_bytes, 0, NULL, false, slot_of(handle)}));
 }
 
 wakotehu_code wakotehu_close(wakotehu_handle handle) {
     wakotehu_code code = enter(handle);
     if (code != WAKOTEHU_OK)
         return code;
-    code = (wakotehu_code)ffi_close(slot_of(handle));
-    atomic_store(&chains[handle & 255].word, word_of(handle >> 8, FREE));
-    return code;
+    return leave_free(CHAIN, handle, ffi_close(slot_of(handle)));
 }
 
 /* ---- commands */
@@ -529,17 +614,8 @@ wakotehu_code wakotehu_coins(wakotehu_handle handle, wakotehu_coin_call call, vo
 
 /* ---- transactions that are read once */
 
-static struct parsed {
-    _Atomic uint64_t word;
-    struct slot slot;
-} parsed[WAKOTEHU_MOST_TRANSACTIONS];
-
 /* Where a free place is looked for first: it was freed last, or stands behind the one that was taken last. */
 static _Atomic uint64_t next_parsed;
-
-static struct parsed *parsed_at(wakotehu_tx tx) { return &parsed[tx & (WAKOTEHU_MOST_TRANSACTIONS - 1)]; }
-
-_Static_assert(WAKOTEHU_MOST_TRANSACTIONS == 1 << 16, "a place is two bytes of a handle");
 
 static uint32_t read_tx(struct slot *slot, const uint8_t *bytes, size_t length, size_t *used) {
     uint64_t told = 0;
@@ -556,32 +632,33 @@ wakotehu_code wakotehu_tx_read(const uint8_t *bytes, size_t length, size_t *used
         return WAKOTEHU_NULL;
     uint64_t first = atomic_load(&next_parsed);
     for (uint64_t n = 0; n < WAKOTEHU_MOST_TRANSACTIONS; n++) {
-        uint64_t place = (first + n) % WAKOTEHU_MOST_TRANSACTIONS, word = atomic_load(&parsed[place].word);
-        uint64_t number = (word >> 2) + 1;
-        if ((word & 3) != FREE || number >> 46 != 0)
+        uint64_t place = (first + n) % WAKOTEHU_MOST_TRANSACTIONS, number = take_place(TRANSACTION, place);
+        if (number == 0)
             continue;
-        if (!atomic_compare_exchange_strong(&parsed[place].word, &word, word_of(number, IN_USE)))
-            continue;
-        uint32_t code = read_tx(&parsed[place].slot, length ? bytes : no_bytes, length, used);
-        if (code == WAKOTEHU_OK) {
-            atomic_store(&next_parsed, place + 1);
-            *tx = number << 16 | place;
-        }
-        atomic_store(&parsed[place].word, word_of(number, code == WAKOTEHU_OK ? OPEN : FREE));
-        return (wakotehu_code)code;
+        wakotehu_tx made = handle_of(TRANSACTION, number, place);
+        uint32_t code = read_tx(&held_at(TRANSACTION, made)->slot, length ? bytes : no_bytes, length, used);
+        if (code != WAKOTEHU_OK)
+            return leave_free(TRANSACTION, made, code);
+        atomic_store(&next_parsed, place + 1);
+        *tx = made;
+        return leave_alone(TRANSACTION, made, code);
     }
     return WAKOTEHU_TOO_MANY;
 }
 
 wakotehu_code wakotehu_tx_free(wakotehu_tx tx) {
-    struct parsed *own = parsed_at(tx);
-    wakotehu_code code = enter_place(&own->word, tx >> 16);
+    wakotehu_code code = enter_alone(TRANSACTION, tx);
     if (code != WAKOTEHU_OK)
         return code;
-    code = (wakotehu_code)ffi_tx_free(&own->slot);
-    atomic_store(&own->word, word_of(tx >> 16, FREE));
-    atomic_store(&next_parsed, tx & (WAKOTEHU_MOST_TRANSACTIONS - 1));
+    code = leave_free(TRANSACTION, tx, ffi_tx_free(&held_at(TRANSACTION, tx)->slot));
+    atomic_store(&next_parsed, place_in(TRANSACTION, tx));
     return code;
+}
+
+/* Whether flags have a bit that is no rule's. */
+static bool has_unknown(uint32_t flags) {
+    return flags & ~(uint32_t)(WAKOTEHU_VERIFY_P2SH | WAKOTEHU_VERIFY_DERSIG | WAKOTEHU_VERIFY_CHECKLOCKTIMEVERIFY
+                               | WAKOTEHU_VERIFY_CHECKSEQUENCEVERIFY);
 }
 
 static struct bytes bytes_of(const void *at, size_t length) { return (struct bytes){length ? at : no_bytes, length}; }
@@ -597,12 +674,13 @@ wakotehu_code wakotehu_tx_verify_input(wakotehu_tx tx, uint64_t input, const uin
     if (!readable(spent, spent_length) || !readable(valid, valid_length) || !readable(invalid, invalid_length) || !error
         || !readable(asked, room) || !needed)
         return WAKOTEHU_NULL;
-    struct parsed *own = parsed_at(tx);
-    wakotehu_code code = enter_place(&own->word, tx >> 16);
+    if (has_unknown(flags))
+        return WAKOTEHU_FLAGS;
+    struct slot own;
+    wakotehu_code code = enter_shared(tx, &own);
     if (code != WAKOTEHU_OK)
         return code;
-    code = (wakotehu_code)ffi_tx_verify_input(&own->slot, &question, &told, room ? (uint8_t *)asked : none, room);
-    atomic_store(&own->word, word_of(tx >> 16, OPEN));
+    code = leave_shared(tx, ffi_tx_verify_input(&own, &question, &told, room ? (uint8_t *)asked : none, room));
     if (code == WAKOTEHU_OK)
         *error = told.error;
     if (code == WAKOTEHU_UNKNOWN || code == WAKOTEHU_TOO_SMALL)
@@ -625,12 +703,13 @@ wakotehu_code wakotehu_tx_verify(wakotehu_tx tx, const uint8_t *scripts, size_t 
         || !readable(valid, valid_length) || !readable(invalid, invalid_length) || !input || !error
         || !readable(asked, room) || !needed)
         return WAKOTEHU_NULL;
-    struct parsed *own = parsed_at(tx);
-    wakotehu_code code = enter_place(&own->word, tx >> 16);
+    if (has_unknown(flags))
+        return WAKOTEHU_FLAGS;
+    struct slot own;
+    wakotehu_code code = enter_shared(tx, &own);
     if (code != WAKOTEHU_OK)
         return code;
-    code = (wakotehu_code)ffi_tx_verify(&own->slot, &question, &told, room ? (uint8_t *)asked : none, room);
-    atomic_store(&own->word, word_of(tx >> 16, OPEN));
+    code = leave_shared(tx, ffi_tx_verify(&own, &question, &told, room ? (uint8_t *)asked : none, room));
     if (code == WAKOTEHU_OK) {
         *input = told.input;
         *error = told.error;
@@ -644,14 +723,11 @@ wakotehu_code wakotehu_tx_verify(wakotehu_tx tx, const uint8_t *scripts, size_t 
 
 /* ---- coins that are given */
 
-static wakotehu_code enter_set(wakotehu_utxo utxo) { return enter_place(&sets[utxo & 255].word, utxo >> 8); }
+static wakotehu_code enter_set(wakotehu_utxo utxo) { return enter_alone(SET, utxo); }
 
-static struct slot *set_of(wakotehu_utxo utxo) { return &sets[utxo & 255].slot; }
+static struct slot *set_of(wakotehu_utxo utxo) { return &held_at(SET, utxo)->slot; }
 
-static wakotehu_code leave_set(wakotehu_utxo utxo, uint32_t code) {
-    atomic_store(&sets[utxo & 255].word, word_of(utxo >> 8, OPEN));
-    return (wakotehu_code)code;
-}
+static wakotehu_code leave_set(wakotehu_utxo utxo, uint32_t code) { return leave_alone(SET, utxo, code); }
 
 static struct place place_of(const uint8_t *id, uint32_t index) {
     struct place at = {.index = index};
@@ -660,16 +736,14 @@ static struct place place_of(const uint8_t *id, uint32_t index) {
 }
 
 wakotehu_code wakotehu_utxo_open(wakotehu_utxo *utxo) {
-    return utxo ? open_place(utxo, &(struct opening){.places = sets}) : WAKOTEHU_NULL;
+    return utxo ? open_place(utxo, &(struct opening){.kind = SET}) : WAKOTEHU_NULL;
 }
 
 wakotehu_code wakotehu_utxo_close(wakotehu_utxo utxo) {
     wakotehu_code code = enter_set(utxo);
     if (code != WAKOTEHU_OK)
         return code;
-    code = (wakotehu_code)ffi_utxo_close(set_of(utxo));
-    atomic_store(&sets[utxo & 255].word, word_of(utxo >> 8, FREE));
-    return code;
+    return leave_free(SET, utxo, ffi_utxo_close(set_of(utxo)));
 }
 
 wakotehu_code wakotehu_utxo_put(wakotehu_utxo utxo, const uint8_t *id, uint32_t index, const wakotehu_coin *coin,
@@ -769,15 +843,17 @@ wakotehu_code wakotehu_tx_verify_input_known(wakotehu_tx tx, wakotehu_utxo known
     uint8_t none[1];
     if (!readable(spent, spent_length) || !error || !readable(asked, room) || !needed)
         return WAKOTEHU_NULL;
-    struct parsed *own = parsed_at(tx);
-    wakotehu_code code = enter_place(&own->word, tx >> 16);
+    if (has_unknown(flags))
+        return WAKOTEHU_FLAGS;
+    struct slot own;
+    wakotehu_code code = enter_shared(tx, &own);
     if (code != WAKOTEHU_OK)
         return code;
     code = enter_set(known);
     if (code == WAKOTEHU_OK)
-        code = leave_set(known, ffi_tx_verify_input_known(&own->slot, set_of(known), &question, &told,
+        code = leave_set(known, ffi_tx_verify_input_known(&own, set_of(known), &question, &told,
                                                           room ? (uint8_t *)asked : none, room));
-    atomic_store(&own->word, word_of(tx >> 16, OPEN));
+    code = leave_shared(tx, code);
     if (code == WAKOTEHU_OK)
         *error = told.error;
     if (code == WAKOTEHU_UNKNOWN || code == WAKOTEHU_TOO_SMALL)
@@ -785,20 +861,34 @@ wakotehu_code wakotehu_tx_verify_input_known(wakotehu_tx tx, wakotehu_utxo known
     return code;
 }
 
-wakotehu_code wakotehu_check_tx_inputs(wakotehu_utxo utxo, const uint8_t *bytes, size_t length, uint32_t height,
-                                       uint32_t *reason, int64_t *fee) {
+/* By Bitcoin Core's rule of sizes too, where `sized`. */
+static wakotehu_code check_inputs(wakotehu_utxo utxo, const struct bytes *tx, uint32_t height, bool sized, uint32_t *reason,
+                                  int64_t *fee) {
     struct inputs_told told = {0, 0};
-    if (!readable(bytes, length) || !reason || !fee)
-        return WAKOTEHU_NULL;
     wakotehu_code code = enter_set(utxo);
     if (code != WAKOTEHU_OK)
         return code;
-    code = leave_set(utxo, ffi_check_tx_inputs(set_of(utxo), length ? bytes : no_bytes, length, height, &told));
+    uint32_t found = sized ? ffi_tx_check(tx->at, tx->length, &told.reason) : WAKOTEHU_OK;
+    if (found == WAKOTEHU_OK && told.reason == 0)
+        found = ffi_check_tx_inputs(set_of(utxo), tx->at, tx->length, height, &told);
+    code = leave_set(utxo, found);
     if (code == WAKOTEHU_OK) {
         *reason = told.reason;
         *fee = told.fee;
     }
     return code;
+}
+
+wakotehu_code wakotehu_check_tx_inputs(wakotehu_utxo utxo, const uint8_t *bytes, size_t length, uint32_t height,
+                                       uint32_t *reason, int64_t *fee) {
+    struct bytes tx = bytes_of(bytes, length);
+    return readable(bytes, length) && reason && fee ? check_inputs(utxo, &tx, height, false, reason, fee) : WAKOTEHU_NULL;
+}
+
+wakotehu_code wakotehu_check_transaction_inputs(wakotehu_utxo utxo, const uint8_t *bytes, size_t length, uint32_t height,
+                                                uint32_t *reason, int64_t *fee) {
+    struct bytes tx = bytes_of(bytes, length);
+    return readable(bytes, length) && reason && fee ? check_inputs(utxo, &tx, height, true, reason, fee) : WAKOTEHU_NULL;
 }
 
 /* ---- words */
@@ -811,7 +901,7 @@ const char *wakotehu_reason_text(uint32_t reason) {
         "bad-txns-prevout-null", "bad-blk-sigops", "prev-blk-not-found", "bad-prevblk", "bad-diffbits",
         "time-too-old", "time-too-new", "bad-version", "bad-txns-nonfinal", "bad-cb-height", "bad-txns-BIP30",
         "bad-txns-inputs-missingorspent", "bad-txns-premature-spend-of-coinbase", "bad-txns-in-belowout",
-        "bad-cb-amount", "blk-bad-inputs",
+        "bad-cb-amount", "blk-bad-inputs", "bad-txns-oversize",
     };
     return reason < sizeof texts / sizeof *texts ? texts[reason] : "";
 }
@@ -846,6 +936,8 @@ const char *wakotehu_code_text(wakotehu_code code) {
     case WAKOTEHU_BUSY: return "another call is using the handle";
     case WAKOTEHU_NULL: return "a pointer is null, or a length is too large";
     case WAKOTEHU_TOO_MANY: return "too many chainstates or transactions are open";
+    case WAKOTEHU_HANDLE: return "the handle is of another kind";
+    case WAKOTEHU_FLAGS: return "a bit of the flags is no rule's";
     case WAKOTEHU_SHORT: return "the bytes end too early";
     case WAKOTEHU_LONG_FORM: return "a count is spelled in more bytes than it needs";
     case WAKOTEHU_TOO_LARGE: return "a count is above 33554432";
@@ -858,6 +950,7 @@ const char *wakotehu_code_text(wakotehu_code code) {
     case WAKOTEHU_UNKNOWN: return "whether a signature is valid isn't known";
     case WAKOTEHU_CONTRADICTION: return "a signature is said to be valid and not to be";
     case WAKOTEHU_WANTS: return "signatures have to be found out first";
+    case WAKOTEHU_ASKED_TOO_SMALL: return "the room for the line of a signature is too small";
     }
     return "";
 }

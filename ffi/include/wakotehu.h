@@ -5,8 +5,9 @@
  * WAKOTEHU_OK, or why it did nothing. No call crashes or ends the program, whatever handle it is given.
  *
  *   - A handle is used by one call at a time, by any thread: a call on a handle that another call is using answers
- *     WAKOTEHU_BUSY and does nothing. Calls on different handles run side by side.
- *   - A handle that was closed, or never opened, is answered WAKOTEHU_CLOSED. No number is given out twice.
+ *     WAKOTEHU_BUSY and does nothing. Calls on different handles run side by side, and calls that ask one transaction.
+ *   - A handle that was closed, or never opened, is answered WAKOTEHU_CLOSED, and one of another kind (a chainstate's, a set's
+ *     or a transaction's) WAKOTEHU_HANDLE. No number is given out twice, to whatever kind.
  *   - A null pointer where one has to be is answered WAKOTEHU_NULL. Pointers have to point to what the call says: that
  *     can't be tested. What a call writes and what it reads may not overlap.
  *   - WAKOTEHU_MEMORY: there was no memory, and nothing changed.
@@ -48,6 +49,8 @@ typedef enum {
     WAKOTEHU_BUSY = 7,      /* another call is using the handle */
     WAKOTEHU_NULL = 8,      /* a pointer is null, or a length is above 2^63 - 1 */
     WAKOTEHU_TOO_MANY = 9,  /* WAKOTEHU_MOST chainstates are open, or WAKOTEHU_MOST_TRANSACTIONS transactions kept */
+    WAKOTEHU_HANDLE = 10,   /* the handle is, or was, one of another kind */
+    WAKOTEHU_FLAGS = 11,    /* a bit of the flags is no rule's, or a field of them is neither 0 nor 1 */
     WAKOTEHU_SHORT = 20,    /* the bytes end too early */
     WAKOTEHU_LONG_FORM = 21, /* a count is spelled in more bytes than it needs */
     WAKOTEHU_TOO_LARGE = 22, /* a count is above 33,554,432 */
@@ -59,7 +62,8 @@ typedef enum {
     WAKOTEHU_TOO_LONG = 28, /* the record says a length above 33,554,432 */
     WAKOTEHU_UNKNOWN = 29,  /* the scripts ask for a signature of which nothing is known */
     WAKOTEHU_CONTRADICTION = 30, /* one signature is said to be valid and not to be */
-    WAKOTEHU_WANTS = 31     /* signatures have to be found out first: see wakotehu_open_by_need */
+    WAKOTEHU_WANTS = 31,    /* signatures have to be found out first: see wakotehu_open_by_need */
+    WAKOTEHU_ASKED_TOO_SMALL = 32 /* of wakotehu_eval_script: the room for a line is too small; what is needed was told */
 } wakotehu_code;
 
 /* So many chainstates can be open at once. */
@@ -263,8 +267,10 @@ wakotehu_code wakotehu_coins(wakotehu_handle handle, wakotehu_coin_call call, vo
 typedef uint64_t wakotehu_utxo;
 
 /* Where a block is connected: its height; the median time past of its parent; the medians time past of its parent's branch
- * by height, that of genesis first, of which only those below the coins that it spends are asked (BIP 68; one that lacks
- * counts as 0); and from which heights soft forks are in force. medians may be null where count is 0. */
+ * by height, that of genesis first; and from which heights soft forks are in force. A relative lock by time (BIP 68) counts
+ * from the median of the block below the coin that it spends: of this height where the set doesn't have the coin, since the
+ * block makes it then. Only those have to be given. The parent's may be left out where all below it are there: it is `cutoff`.
+ * medians may be null where count is 0. */
 typedef struct {
     const uint32_t *medians;
     size_t count;
@@ -297,7 +303,8 @@ wakotehu_code wakotehu_utxo_coins(wakotehu_utxo utxo, wakotehu_coin_call call, v
 /* Connects the block of these bytes (Bitcoin Core's CheckBlock and ConnectBlock): the first rule that it breaks by itself,
  * or over the coins, its scripts last. Where it breaks none the set has the coins after it; else nothing has changed. What
  * a block may break by its place, under its parent, isn't asked (wakotehu_block_place). Bytes that are no block are
- * answered as by wakotehu_read_block. WAKOTEHU_WANTS where signatures have to be found out first: by wakotehu_utxo_wants,
+ * answered as by wakotehu_read_block. WAKOTEHU_MISMATCH where a relative lock counts from a median that isn't given: nothing
+ * else of the block is looked at then. WAKOTEHU_WANTS where signatures have to be found out first: by wakotehu_utxo_wants,
  * wakotehu_utxo_want_lines and wakotehu_utxo_learn, which are as those of a chainstate. */
 wakotehu_code wakotehu_connect(wakotehu_utxo utxo, const uint8_t *block, size_t length, const wakotehu_setting *setting,
                                wakotehu_fault *fault);
@@ -322,6 +329,10 @@ wakotehu_code wakotehu_utxo_learn(wakotehu_utxo utxo, const uint8_t *key, size_t
  * where it has more than 1,000,000 inputs and outputs, which no block has room for. */
 wakotehu_code wakotehu_check_tx_inputs(wakotehu_utxo utxo, const uint8_t *bytes, size_t length, uint32_t height,
                                        uint32_t *reason, int64_t *fee);
+
+/* The same by Bitcoin Core's rule of sizes too: the rules of wakotehu_check_transaction come first. */
+wakotehu_code wakotehu_check_transaction_inputs(wakotehu_utxo utxo, const uint8_t *bytes, size_t length, uint32_t height,
+                                                uint32_t *reason, int64_t *fee);
 
 /* Bitcoin Core's word for a reason, as "bad-cb-amount"; "blk-bad-inputs" for 29; "" for a number that is no reason's.
  * The text lives as long as the program. */
@@ -409,6 +420,11 @@ typedef struct {
 
 /* Reads the transaction at the front of the bytes; `size` says how many it takes. */
 wakotehu_code wakotehu_read_transaction(const uint8_t *bytes, size_t length, wakotehu_transaction *shown);
+
+/* The first rule that the transaction at the front breaks by itself, 0 where there is none, as wakotehu_read_transaction tells
+ * it, and by Bitcoin Core's rule of sizes too (CheckTransaction): one of more than 1,000,000 bytes that has inputs and outputs
+ * is refused by "bad-txns-oversize" (30). A block refuses it by its own size. */
+wakotehu_code wakotehu_check_transaction(const uint8_t *bytes, size_t length, uint32_t *reason);
 
 /* The parts of the transaction at the front: its inputs, its outputs, and their scripts one after the other (those of the
  * inputs first). wakotehu_read_transaction says how many inputs and outputs there are, and its `size` is room enough for
@@ -568,8 +584,8 @@ typedef enum {
 const char *wakotehu_script_error_name(uint32_t error);
 const char *wakotehu_script_error_text(uint32_t error);
 
-/* Rules of scripts by Bitcoin Core's bits, for the calls below: BIP 16, BIP 66, BIP 65, BIP 112. Other bits change
- * nothing. */
+/* Rules of scripts by Bitcoin Core's bits, for the calls below: BIP 16, BIP 66, BIP 65, BIP 112. Another bit is answered
+ * WAKOTEHU_FLAGS. */
 #define WAKOTEHU_VERIFY_P2SH 1
 #define WAKOTEHU_VERIFY_DERSIG 4
 #define WAKOTEHU_VERIFY_CHECKLOCKTIMEVERIFY 512
@@ -582,9 +598,8 @@ wakotehu_code wakotehu_verify_script(const uint8_t *bytes, size_t length, uint64
                                      char *asked, size_t room, uint64_t *needed);
 
 /* A transaction that is read once, so that each of its inputs can be asked for without reading it again. It is named by a
- * handle, a number; 0 is never one. It never changes. A call on a handle that another call is using answers WAKOTEHU_BUSY,
- * one on a handle that was freed, or is none, WAKOTEHU_CLOSED. It is no wakotehu_handle: a
- * chainstate may have the same number. */
+ * handle, a number; 0 is never one. It never changes, so up to 65,535 calls may ask it at once, from any threads. Only
+ * wakotehu_tx_free has it alone: it answers WAKOTEHU_BUSY while another call asks it, and gives nothing back then. */
 typedef uint64_t wakotehu_tx;
 
 /* So many can be kept at once. */
@@ -613,16 +628,16 @@ wakotehu_code wakotehu_tx_verify(wakotehu_tx tx, const uint8_t *scripts, size_t 
                                  size_t room, uint64_t *needed);
 
 /* wakotehu_tx_verify_input by the verdicts that a set of coins has learnt (wakotehu_utxo_learn), so that no table is read. The
- * set's coins aren't asked. Both handles are used by this call alone meanwhile. */
+ * set's coins aren't asked. The set is used by this call alone meanwhile. */
 wakotehu_code wakotehu_tx_verify_input_known(wakotehu_tx tx, wakotehu_utxo known, uint64_t input, const uint8_t *spent,
                                              size_t spent_length, uint32_t flags, uint32_t *error, char *asked,
                                              size_t room, uint64_t *needed);
 
-/* Gives a transaction's memory back. */
+/* Gives a transaction's memory back. WAKOTEHU_BUSY while another call asks it: call again. */
 wakotehu_code wakotehu_tx_free(wakotehu_tx tx);
 
-/* What a script left: how many elements its stack has, and how many bytes these have together; `error` is why it failed,
- * and then the others are 0. */
+/* What a script left: how many elements its stack has, and how many bytes these have together; `error` is why it failed, or
+ * WAKOTEHU_SCRIPT_UNKNOWN_ERROR where it didn't run to its end, and then the others are 0. */
 typedef struct {
     uint64_t elements, size;
     uint32_t error;
@@ -631,9 +646,10 @@ typedef struct {
 /* Runs one script on a stack (Bitcoin Core's EvalScript), with signatures of an input of the transaction at the front of
  * the bytes. A stack is the lengths of its elements, from the bottom up, and their bytes one after the other; else
  * WAKOTEHU_MISMATCH. The stack that is left is put at the front of `left_sizes`, with room for `most_sizes`, and of
- * `left`, with room for `most` bytes. Where one is too small neither is written and the answer is WAKOTEHU_TOO_SMALL, but
- * `evaluated` is told: the script left at most 1,000 elements, unless it has no opcode. Signatures are known as for
- * wakotehu_verify_known. */
+ * `left`, with room for `most` bytes. Where one is too small neither is written and the answer is WAKOTEHU_TOO_SMALL:
+ * `evaluated` says how much is needed, at most 1,000 elements unless the script has no opcode. Signatures are known as for
+ * wakotehu_verify_known. A line that is longer than `room` is answered WAKOTEHU_ASKED_TOO_SMALL: the script hasn't run to its
+ * end, and `needed` says how long the line is. `evaluated` is written at each code. */
 wakotehu_code wakotehu_eval_script(const uint8_t *bytes, size_t length, uint64_t input, const uint8_t *script,
                                    size_t script_length, uint32_t flags, const uint64_t *sizes, size_t count,
                                    const uint8_t *elements, size_t elements_length, const char *valid,

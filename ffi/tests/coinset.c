@@ -202,15 +202,12 @@ static void misused(void) {
     EXPECT(wakotehu_check_tx_inputs(utxo, right.bytes + right.tx, 9, HEIGHT, &reason, &fee) == WAKOTEHU_SHORT);
     EXPECT(reason == 7 && fee == 7 && wakotehu_utxo_coins(utxo, NULL, NULL) == WAKOTEHU_NULL);
     EXPECT(wakotehu_utxo_want_lines(utxo, NULL, 0, &needed) == WAKOTEHU_OK && needed == 0);
-    /* A chainstate's handle doesn't name a set. */
-    wakotehu_handle chain = 0;
-    EXPECT(wakotehu_open_by_need(&chain, &setting.heights) == WAKOTEHU_OK && wakotehu_utxo_close(utxo) == WAKOTEHU_OK);
-    wakotehu_utxo wrong[] = {0, 1, 255, UINT64_MAX, utxo, utxo + 1, utxo + 256, chain};
+    EXPECT(wakotehu_utxo_close(utxo) == WAKOTEHU_OK);
+    wakotehu_utxo wrong[] = {0, 1, 255, UINT64_MAX, utxo, utxo + 1, utxo + 256};
     for (size_t n = 0; n < sizeof wrong / sizeof *wrong; n++) {
         EXPECT(wakotehu_utxo_close(wrong[n]) == WAKOTEHU_CLOSED && wakotehu_disconnect(wrong[n]) == WAKOTEHU_CLOSED);
         EXPECT(wakotehu_connect(wrong[n], right.bytes, right.length, &setting, &fault) == WAKOTEHU_CLOSED && fault.reason == 7);
     }
-    EXPECT(wakotehu_close(chain) == WAKOTEHU_OK);
 }
 
 /* What a call on a set is answered while the set is in use. */

@@ -1,5 +1,5 @@
-/* Transactions that are read once: each allocation refused in turn, handles misused and fought for by threads, and each
- * answer beside that of the call that reads the bytes. Prints nothing where all is well. */
+/* Transactions that are read once: each allocation refused in turn, handles misused, shared by threads and closed under them, and
+ * each answer beside that of the call that reads the bytes. Prints nothing where all is well. */
 #include <pthread.h>
 #include <string.h>
 #include <wakotehu.h>
@@ -240,6 +240,22 @@ static void misused(void) {
     EXPECT(wakotehu_tx_verify_input(own, 1, adds, 4, 5, NULL, 0, NULL, 0, NULL, &error, NULL, 0, NULL) == WAKOTEHU_NULL);
     EXPECT(wakotehu_tx_verify_input(own, 1, adds, SIZE_MAX, 5, NULL, 0, NULL, 0, NULL, &error, NULL, 0, &needed)
            == WAKOTEHU_NULL);
+    for (uint32_t bit = 1; bit; bit <<= 1) {
+        struct all all;
+        int known = (bit & (1 | 4 | 512 | 1024)) != 0;
+        wakotehu_utxo set = 0;
+        EXPECT(wakotehu_utxo_open(&set) == WAKOTEHU_OK);
+        wakotehu_code codes[] = {
+            wakotehu_tx_verify_input(own, 1, adds, 4, bit, NULL, 0, NULL, 0, NULL, &error, NULL, 0, &needed),
+            wakotehu_tx_verify_input_known(own, set, 1, adds, 4, bit, &error, NULL, 0, &needed),
+            wakotehu_tx_verify(own, all_scripts, 8, (const uint64_t[]){4, 4, 0}, INPUTS, bit, NULL, 0, NULL, 0, NULL, &all.input,
+                               &all.told.error, NULL, 0, &needed),
+        };
+        for (int n = 0; n < 3; n++)
+            EXPECT(codes[n] == (known ? WAKOTEHU_OK : WAKOTEHU_FLAGS));
+        EXPECT(error == (known ? 0 : 7) && wakotehu_utxo_close(set) == WAKOTEHU_OK);
+        error = 7;
+    }
     EXPECT(error == 7 && needed == 7);
     EXPECT(wakotehu_tx_verify_input(own, 1, adds, 4, 5, NULL, 0, NULL, 0, NULL, &error, NULL, 0, &needed) == WAKOTEHU_OK);
     EXPECT(error == 0 && needed == 7);
@@ -266,32 +282,67 @@ static void too_many(void) {
     EXPECT(live == before);
 }
 
-/* Threads that ask one transaction, of which each call is done or busy, and each read and free others. */
+/* Threads that ask one transaction, of which no call is busy, and each read and free others. */
+enum { THREADS = 8 };
 static wakotehu_tx shared;
+static wakotehu_utxo sets[THREADS];
 
-static void *asks(void *unused) {
-    long done = 0;
-    for (int n = 0; n < 20000; n++) {
+static void *asks(void *given) {
+    const wakotehu_utxo *set = given;
+    struct all all;
+    for (int n = 0; n < 10000; n++) {
         struct told it = nothing_told();
-        wakotehu_code code = by_handle(shared, &questions[n & 1], &it);
-        EXPECT(code == WAKOTEHU_OK || code == WAKOTEHU_BUSY);
-        EXPECT(code == WAKOTEHU_BUSY || it.error == (n & 1 ? WAKOTEHU_SCRIPT_OK : WAKOTEHU_SCRIPT_EVAL_FALSE));
-        done += code == WAKOTEHU_OK;
+        uint32_t error = n & 1 ? WAKOTEHU_SCRIPT_OK : WAKOTEHU_SCRIPT_EVAL_FALSE;
+        EXPECT(by_handle(shared, &questions[n & 1], &it) == WAKOTEHU_OK && it.error == error);
+        EXPECT(all_inputs(shared, all_sizes, INPUTS, sizeof all_scripts, "", "", &all) == WAKOTEHU_UNKNOWN);
+        EXPECT(wakotehu_tx_verify_input_known(shared, *set, n & 1, adds, sizeof adds, 5, &it.error, it.asked, 256, &it.needed)
+               == WAKOTEHU_OK);
+        EXPECT(it.error == error);
         wakotehu_tx own = opened();
         EXPECT(by_handle(own, &questions[1], &it) == WAKOTEHU_OK && wakotehu_tx_free(own) == WAKOTEHU_OK);
     }
-    EXPECT(done > 0);
+    return NULL;
+}
+
+/* Asks while it is freed, and never meets another answer than the right one or that it is closed. */
+static void *asks_what_is_freed(void *unused) {
+    struct told it;
+    for (int n = 0; n < 500; n++) {
+        wakotehu_code code = by_handle(shared, &questions[1], &it);
+        EXPECT(code == WAKOTEHU_CLOSED || (code == WAKOTEHU_OK && it.error == WAKOTEHU_SCRIPT_OK));
+    }
     return unused;
 }
 
+/* It is given back while none asks it, and by one call. */
+static void *frees(void *freed) {
+    wakotehu_code code;
+    while ((code = wakotehu_tx_free(shared)) == WAKOTEHU_BUSY)
+        ;
+    EXPECT(code == WAKOTEHU_OK || code == WAKOTEHU_CLOSED);
+    *(int *)freed = code == WAKOTEHU_OK;
+    return NULL;
+}
+
 static void threads(void) {
-    pthread_t all[4];
+    pthread_t all[THREADS];
+    long before = live;
     shared = opened();
-    for (int n = 0; n < 4; n++)
-        EXPECT(pthread_create(&all[n], NULL, asks, NULL) == 0);
-    for (int n = 0; n < 4; n++)
-        EXPECT(pthread_join(all[n], NULL) == 0);
+    for (int n = 0; n < THREADS; n++)
+        EXPECT(wakotehu_utxo_open(&sets[n]) == WAKOTEHU_OK && pthread_create(&all[n], NULL, asks, &sets[n]) == 0);
+    for (int n = 0; n < THREADS; n++)
+        EXPECT(pthread_join(all[n], NULL) == 0 && wakotehu_utxo_close(sets[n]) == WAKOTEHU_OK);
     EXPECT(wakotehu_tx_free(shared) == WAKOTEHU_OK);
+    for (int round = 0; round < 50; round++) {
+        int freed[2] = {0};
+        shared = opened();
+        for (int n = 0; n < THREADS; n++)
+            EXPECT(pthread_create(&all[n], NULL, n < 2 ? frees : asks_what_is_freed, n < 2 ? &freed[n] : NULL) == 0);
+        for (int n = 0; n < THREADS; n++)
+            EXPECT(pthread_join(all[n], NULL) == 0);
+        EXPECT(freed[0] + freed[1] == 1);
+    }
+    EXPECT(live == before);
 }
 
 int main(void) {

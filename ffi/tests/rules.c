@@ -133,8 +133,15 @@ static struct told nothing_told(void) {
     return it;
 }
 
+static int is_no_run(const wakotehu_evaluated *told) {
+    return told->elements == 0 && told->size == 0 && told->error == WAKOTEHU_SCRIPT_UNKNOWN_ERROR;
+}
+
 /* Each call that may take memory, then those that take none; the numbers are those of `MEMORY_FREE` on. */
-enum { MEMORY_FREE = 21, CALLS = 33 };
+enum { EVALUATION = 19, MEMORY_FREE = 22, CALLS = 34 };
+
+/* What is told of a script that hasn't run to its end. */
+static const wakotehu_evaluated no_run = {0, 0, WAKOTEHU_SCRIPT_UNKNOWN_ERROR};
 
 /* Three ids, and the last of them again: the list without the repetition has the same root. */
 static const uint8_t four_ids[4][32] = {{1}, {2}, {3}, {3}};
@@ -176,18 +183,19 @@ static wakotehu_code nth_call(int call, struct told *it) {
     case 19: return wakotehu_eval_script(tx, TX, 0, separated, 3, 0, given_sizes, 2, given, 3, table, TABLE, NULL, 0,
                                          &it->line, &it->evaluated, it->sizes, 8, it->bytes, 128, it->text, 256, &it->count);
     case 20: return wakotehu_merkle(four_ids[0], 4, it->bytes, &it->yes);
+    case 21: return wakotehu_check_transaction(tx, TX, &it->yes);
     /* MEMORY_FREE */
-    case 21: return wakotehu_next_opcode(spent, 3, &it->opcode);
-    case 22: return wakotehu_script(spent, 3, &it->script);
-    case 23: return wakotehu_read_number(spent, 3, 4, &it->value);
-    case 24: return wakotehu_median(times, 3, &it->yes);
-    case 25: return wakotehu_strict_signature(signature, 8, &it->yes);
-    case 26: return wakotehu_hash160(spent, 3, it->bytes);
-    case 27: return wakotehu_sha256(spent, 3, it->bytes);
-    case 28: return wakotehu_read_header(b1, 80, &it->header);
-    case 29: return wakotehu_read_bits(0x04923456, it->bytes, &it->yes, &it->evaluated.error);
-    case 30: return wakotehu_write_bits(digest, 1, &it->yes);
-    case 31: return wakotehu_work(0x1d00ffff, it->bytes);
+    case 22: return wakotehu_next_opcode(spent, 3, &it->opcode);
+    case 23: return wakotehu_script(spent, 3, &it->script);
+    case 24: return wakotehu_read_number(spent, 3, 4, &it->value);
+    case 25: return wakotehu_median(times, 3, &it->yes);
+    case 26: return wakotehu_strict_signature(signature, 8, &it->yes);
+    case 27: return wakotehu_hash160(spent, 3, it->bytes);
+    case 28: return wakotehu_sha256(spent, 3, it->bytes);
+    case 29: return wakotehu_read_header(b1, 80, &it->header);
+    case 30: return wakotehu_read_bits(0x04923456, it->bytes, &it->yes, &it->evaluated.error);
+    case 31: return wakotehu_write_bits(digest, 1, &it->yes);
+    case 32: return wakotehu_work(0x1d00ffff, it->bytes);
     default: return wakotehu_read_id("00", 2, it->bytes) == WAKOTEHU_NONE ? WAKOTEHU_OK : WAKOTEHU_NULL;
     }
 }
@@ -196,6 +204,8 @@ static void refused_allocations(void) {
     for (int call = 0; call < CALLS; call++) {
         struct told right = nothing_told(), before = nothing_told();
         EXPECT(nth_call(call, &right) == WAKOTEHU_OK);
+        if (call == EVALUATION)
+            before.evaluated = no_run;
         for (long n = 0;; n++) {
             struct told it = nothing_told();
             left = n;
@@ -326,6 +336,146 @@ static void evaluations(void) {
     EXPECT(error == WAKOTEHU_SCRIPT_OK);
 }
 
+/* What a run is answered, with all that it writes. */
+enum { MOST_SIZES = 1200, MOST_LEFT = 1 << 17, MOST_LINE = 1 << 13 };
+struct run {
+    wakotehu_code code;
+    wakotehu_evaluated told;
+    uint64_t sizes[MOST_SIZES], needed;
+    uint8_t left[MOST_LEFT];
+    char line[MOST_LINE];
+};
+
+/* A script and the stack that it begins with. */
+struct case_of_run {
+    uint8_t script[32], elements[5000];
+    uint64_t sizes[6];
+    size_t length, count, size;
+    uint32_t flags;
+};
+
+static void run(const struct case_of_run *it, size_t sizes, size_t left, size_t line, struct run *found) {
+    memset(found, 0xa5, sizeof *found);
+    found->code = wakotehu_eval_script(tx, TX, 0, it->script, it->length, it->flags, it->sizes, it->count, it->elements, it->size,
+                                       NULL, 0, NULL, 0, NULL, &found->told, found->sizes, sizes, found->left, left,
+                                       found->line, line, &found->needed);
+}
+
+static int same_run(const struct run *one, const struct run *other) {
+    return one->code == other->code && one->told.elements == other->told.elements && one->told.size == other->told.size
+           && one->told.error == other->told.error && one->needed == other->needed
+           && memcmp(one->sizes, other->sizes, sizeof one->sizes) == 0 && memcmp(one->left, other->left, sizeof one->left) == 0
+           && memcmp(one->line, other->line, sizeof one->line) == 0;
+}
+
+static uint32_t random_below(uint32_t *state, uint32_t most) {
+    *state = *state * 1664525 + 1013904223;
+    return (*state >> 8) % most;
+}
+
+static void make_run(uint32_t *state, struct case_of_run *it) {
+    /* 1, 2, DROP, DUP, OVER, CHECKSIG, CHECKSIGVERIFY, and CHECKMULTISIG of 1 of 1 */
+    static const uint8_t opcodes[] = {0x51, 0x52, 0x75, 0x76, 0x78, 0xac, 0xad, 0xae};
+    static const uint32_t rules[] = {0, 1, 4, 1 | 4 | 512 | 1024};
+    *it = (struct case_of_run){.flags = rules[random_below(state, 4)]};
+    it->count = 1 + random_below(state, 5);
+    for (size_t n = 0; n < it->count; n++) {
+        it->sizes[n] = random_below(state, 2) ? random_below(state, 12) : 900 + random_below(state, 100);
+        for (size_t at = 0; at < it->sizes[n]; at++)
+            it->elements[it->size++] = (uint8_t)random_below(state, 256);
+    }
+    for (uint32_t most = 1 + random_below(state, 6); it->length < most;)
+        it->script[it->length++] = opcodes[random_below(state, sizeof opcodes)];
+}
+
+/* Rooms that grow to what was told come to what rooms that are large enough are answered; a line without room isn't answered
+ * as a stack without. */
+static void growing_rooms(void) {
+    static struct case_of_run it;
+    static struct run right, found;
+    uint32_t state = 85;
+    long met[64] = {0}, long_lines = 0;
+    for (int n = 0; n < 4000; n++) {
+        make_run(&state, &it);
+        run(&it, MOST_SIZES, MOST_LEFT, MOST_LINE, &right);
+        EXPECT(right.code == WAKOTEHU_OK || right.code == WAKOTEHU_UNKNOWN);
+        EXPECT(right.code == WAKOTEHU_OK || is_no_run(&right.told));
+        met[right.code]++, long_lines += right.code == WAKOTEHU_UNKNOWN && right.needed > WAKOTEHU_MOST_ASKED;
+        size_t sizes = random_below(&state, 3), left = random_below(&state, 1000), line = random_below(&state, 3000);
+        run(&it, sizes, left, line, &found);
+        if (found.code == WAKOTEHU_TOO_SMALL) {
+            EXPECT(right.code == WAKOTEHU_OK && (found.told.elements > sizes || found.told.size > left));
+            sizes = found.told.elements, left = found.told.size;
+        } else if (found.code == WAKOTEHU_ASKED_TOO_SMALL) {
+            EXPECT(right.code == WAKOTEHU_UNKNOWN && found.needed > line && is_no_run(&found.told));
+            line = found.needed;
+        }
+        met[found.code]++;
+        run(&it, sizes, left, line, &found);
+        EXPECT(same_run(&found, &right));
+    }
+    EXPECT(met[WAKOTEHU_TOO_SMALL] > 99 && met[WAKOTEHU_ASKED_TOO_SMALL] > 99 && long_lines > 99);
+}
+
+/* Bits of flags that are no rule's, and fields that are neither 0 nor 1. */
+static void unknown_flags(void) {
+    uint64_t sizes[4], needed = 7;
+    uint8_t left[4];
+    uint32_t found = 7;
+    wakotehu_evaluated told = {7, 7, 7};
+    for (int bit = 0; bit < 32; bit++) {
+        uint32_t rules = (uint32_t)1 << bit;
+        int known = rules == WAKOTEHU_VERIFY_P2SH || rules == WAKOTEHU_VERIFY_DERSIG
+                    || rules == WAKOTEHU_VERIFY_CHECKLOCKTIMEVERIFY || rules == WAKOTEHU_VERIFY_CHECKSEQUENCEVERIFY;
+        wakotehu_code right = known ? WAKOTEHU_OK : WAKOTEHU_FLAGS;
+        found = 7;
+        EXPECT(wakotehu_verify_script(tx, TX, 0, spent, 3, rules, NULL, 0, NULL, 0, NULL, &found, NULL, 0, &needed) == right);
+        EXPECT(found == (known ? 0 : 7));
+        EXPECT(wakotehu_eval_script(tx, TX, 0, separated, 3, rules, given_sizes, 2, given, 3, NULL, 0, NULL, 0, NULL, &told, sizes, 4,
+                                    left, 4, NULL, 0, &needed) == right);
+        EXPECT(known ? told.elements == 3 && told.error == 0 : is_no_run(&told));
+        for (int field = 0; field < 3 && rules > 1; field++) {
+            wakotehu_flags wrong = {field == 0 ? rules : 0, field == 1 ? rules : 1, field == 2 ? rules : 0};
+            found = 7;
+            EXPECT(wakotehu_verify(tx, TX, 0, spent, 3, &wrong, NULL, 0, NULL, &found) == WAKOTEHU_FLAGS && found == 7);
+            EXPECT(wakotehu_verify_known(tx, TX, 0, spent, 3, &wrong, NULL, 0, NULL, 0, NULL, &found, NULL, 0, &needed)
+                   == WAKOTEHU_FLAGS);
+            EXPECT(found == 7);
+        }
+    }
+    EXPECT(needed == 7);
+}
+
+/* Bitcoin Core's CheckTransaction of 1,000,000 bytes and one more; the rules before it, of no inputs or outputs, come first. */
+static void sizes_of_transactions(void) {
+    enum { MOST = 1000000, SCRIPT = MOST - 64 };
+    uint8_t *large = calloc(1, MOST + 1);
+    uint32_t reason = 7;
+    wakotehu_transaction shown;
+    EXPECT(large);
+    for (int more = 0; more < 2; more++) {
+        uint32_t length = SCRIPT + more;
+        memcpy(large, tx, 41);
+        large[41] = 0xfe;
+        for (int n = 0; n < 4; n++)
+            large[42 + n] = (uint8_t)(length >> 8 * n);
+        memcpy(large + 46 + length, tx + 44, TX - 44);
+        EXPECT(46 + length + TX - 44 == (size_t)MOST + more);
+        EXPECT(wakotehu_check_transaction(large, MOST + more, &reason) == WAKOTEHU_OK && reason == (more ? 30 : 0));
+        EXPECT(wakotehu_read_transaction(large, MOST + more, &shown) == WAKOTEHU_OK && shown.reason == 0);
+    }
+    /* Its output has too high a value: that rule comes behind. */
+    memset(large + 46 + SCRIPT + 1 + 5, 0x7f, 7);
+    EXPECT(wakotehu_check_transaction(large, MOST + 1, &reason) == WAKOTEHU_OK && reason == 30);
+    EXPECT(wakotehu_read_transaction(large, MOST + 1, &shown) == WAKOTEHU_OK && shown.reason == 10);
+    /* No output. */
+    large[46 + SCRIPT + 1 + 4] = 0;
+    EXPECT(wakotehu_check_transaction(large, MOST + 1, &reason) == WAKOTEHU_OK);
+    EXPECT(wakotehu_read_transaction(large, MOST + 1, &shown) == WAKOTEHU_OK && shown.reason == 8 && reason == 8);
+    EXPECT(strcmp(wakotehu_reason_text(30), "bad-txns-oversize") == 0 && strcmp(wakotehu_reason_text(31), "") == 0);
+    free(large);
+}
+
 /* Bitcoin Core's values of bits and work, published digests of "abc", and a list that has another one's root. */
 static void sums(void) {
     static const struct {
@@ -402,7 +552,10 @@ static void refusals(void) {
     for (size_t n = 0; n < 3; n++)
         EXPECT(wakotehu_eval_script(tx, n ? TX : 9, n != 1, separated, 3, 0, given_sizes, 2, given, 2, NULL, 0, NULL, 0, &it.line,
                                     &it.evaluated, it.sizes, 8, it.bytes, 128, it.text, 256, &it.count)
-               == (n == 0 ? WAKOTEHU_SHORT : n == 1 ? WAKOTEHU_MISMATCH : WAKOTEHU_NO_INPUT));
+               == (n == 0 ? WAKOTEHU_SHORT : n == 1 ? WAKOTEHU_MISMATCH : WAKOTEHU_NO_INPUT)
+               && is_no_run(&it.evaluated));
+    it.evaluated = before.evaluated;
+    EXPECT(wakotehu_check_transaction(tx, TX - 1, &it.yes) == WAKOTEHU_SHORT);
     EXPECT(wakotehu_table_add(it.text, 69, &it.length, key, 1, signature, 8, digest) == WAKOTEHU_TOO_SMALL);
     EXPECT(wakotehu_read_id("0", 1, it.bytes) == WAKOTEHU_NONE);
     EXPECT(is_same(&it, &before));
@@ -478,7 +631,9 @@ static void null_and_hostile_lengths(void) {
                                         given, k == 3 ? l : 3, table, k == 4 ? l : TABLE, table, k == 5 ? l : TABLE, NULL,
                                         &it.evaluated, it.sizes, k == 6 ? l / 4 : 8, it.bytes, k == 7 ? l : 128, it.text,
                                         k == 8 ? l : 256, &it.count)
-                   == WAKOTEHU_NULL);
+                       == WAKOTEHU_NULL
+                   && is_no_run(&it.evaluated));
+        it.evaluated = before.evaluated;
         EXPECT(wakotehu_table_read(table, l, &it.line) == WAKOTEHU_NULL);
         EXPECT(wakotehu_table_has(table, l, key, 1, key, 1, digest, &it.line, &it.yes) == WAKOTEHU_NULL);
         EXPECT(wakotehu_table_has(table, TABLE, key, l, key, 1, digest, &it.line, &it.yes) == WAKOTEHU_NULL);
@@ -493,6 +648,7 @@ static void null_and_hostile_lengths(void) {
     }
     EXPECT(wakotehu_read_transaction(NULL, 1, &it.transaction) == WAKOTEHU_NULL);
     EXPECT(wakotehu_read_transaction(tx, TX, NULL) == WAKOTEHU_NULL);
+    EXPECT(wakotehu_check_transaction(NULL, 1, &it.yes) == WAKOTEHU_NULL && wakotehu_check_transaction(tx, TX, NULL) == WAKOTEHU_NULL);
     EXPECT(wakotehu_transaction_parts(NULL, 1, it.inputs, 2, it.outputs, 2, it.bytes, 128) == WAKOTEHU_NULL);
     EXPECT(wakotehu_transaction_parts(tx, TX, NULL, 1, it.outputs, 2, it.bytes, 128) == WAKOTEHU_NULL);
     EXPECT(wakotehu_transaction_parts(tx, TX, it.inputs, 2, NULL, 1, it.bytes, 128) == WAKOTEHU_NULL);
@@ -619,6 +775,9 @@ int main(int count, char **words) {
     separators();
     known_signatures();
     evaluations();
+    growing_rooms();
+    unknown_flags();
+    sizes_of_transactions();
     refusals();
     null_and_hostile_lengths();
     hostile_counts();

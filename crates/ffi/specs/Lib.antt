@@ -8,6 +8,7 @@ pub mod Headers
 pub mod Kept
 pub mod Known
 pub mod Lookups
+pub mod Medians
 pub mod Merkle
 pub mod NamedFailures
 pub mod ParsedTransaction

@@ -14,6 +14,7 @@ use Rattle.interp.specs.declared.script_error.ScriptError.{ScriptError}
 use Rattle.interp.specs.declared.script_error.ScriptError.TheVariants.{UnknownError, EvalFalse, OpReturn, ScriptSize, PushSize, OpCount, StackSize, SigCount, PubkeyCount, Verify, EqualVerify, CheckMultisigVerify, CheckSigVerify, NumEqualVerify, BadOpcode, DisabledOpcode, InvalidStackOperation, InvalidAltstackOperation, UnbalancedConditional, NegativeLocktime, UnsatisfiedLocktime, SigDer, SigPushOnly}
 use Rattle.ffi.specs.declared.shown.ShownStack.{ShownStack}
 use Rattle.ffi.specs.Known.{AreOf, Asked, IsLineTold, asked_of}
+use Rattle.ffi.specs.Tables.{line_of}
 use Rattle.ffi.specs.Room.{IsAtFront}
 
 -- Bitcoin Core's numbers (`script_error.h`)
@@ -138,6 +139,22 @@ abbrev pub IsStackPut : Stack → Rooms → Rooms → ℕ → Type 0
 IsStackPut stack before after result =
     ((result ≡ 0) × IsAtFront (sizes_of stack) before.sizes after.sizes × IsAtFront (bytes_in stack) before.bytes after.bytes)
     ⊎ ((result ≡ 5) × ((length before.sizes < length (sizes_of stack)) ⊎ (length before.bytes < length (bytes_in stack))) × (after ≡ before))
+
+-- a triple's line is there, or there is no room for it, which isn't the number of a stack that has none; how many bytes it has
+-- is reported in both cases
+abbrev pub IsLineAsked : Triple → Asked → Asked → ℕ → Type 0
+IsLineAsked t before after result =
+    let line = line_of t.key t.signature t.digest in
+    (((result ≡ 29) × IsAtFront line before.room after.room)
+    ⊎ ((result ≡ 32) × (length before.room < length line) × (after.room ≡ before.room)))
+    × (after.count ≡ length line)
+
+-- `IsAnswered`, where a line without room has a number of its own
+abbrev pub IsRunAnswered : {A : Type 0} → Answer A → (A → Type 0) → Type 0 → Asked → Asked → ℕ → Type 0
+IsRunAnswered {A} answer told kept before after result =
+    ((x : A) × (answer ≡ Says x) × told x × (after ≡ before))
+    ⊎ (((t : Triple) × (answer ≡ Wants t) × IsLineAsked t before after result × kept)
+    ⊎ ((result ≡ 1) × (after ≡ before) × kept))
 
 -- a stack that is left, and how large it is in both cases; or the number of the failure
 abbrev pub IsLeftTold : Result Stack ScriptError → ShownStack → Rooms → Rooms → ℕ → Type 0

@@ -1,5 +1,5 @@
 -- What is reported about a transaction.
-use Rattle.std.specs.Prelude.{◌≡◌, ℕ, ◌-◌, ◌^◌, ◌⊎◌, List, length, map, min}
+use Rattle.std.specs.Prelude.{◌≡◌, ℕ, ◌-◌, ◌^◌, ◌==◌, ◌&&◌, ◌⊎◌, not, nat_lt, if◌then◌else◌, List, length, map, min}
 use Rattle.txn.specs.declared.tx.Tx.{Tx}
 use Rattle.txn.specs.Check.{is_coinbase, tx_rules}
 use Rattle.txn.specs.First.{first_broken}
@@ -26,6 +26,19 @@ pub record ShowsTx (tx : Tx) (shown : ShownTx) : Type 0 where
   pub lock_time : shown.lock_time ≡ tx.lock_time
   pub coinbase : shown.coinbase ≡ bit (is_coinbase tx)
   pub reason : shown.reason ≡ broken_number (first_broken (tx_rules tx))
+
+-- ---- Bitcoin Core's rule of sizes
+
+-- a transaction has at most so many bytes without witnesses (`MAX_BLOCK_WEIGHT / WITNESS_SCALE_FACTOR`)
+abbrev pub max_tx_size : ℕ
+max_tx_size = 1000000
+
+-- Whether it has more is the third rule of `CheckTransaction`, behind that it has inputs and that it has outputs; 30 is
+-- `bad-txns-oversize`. The other rules are those that it obeys by itself.
+abbrev pub core_number : Tx → ℕ
+core_number tx =
+    if not (length tx.inputs == 0) && not (length tx.outputs == 0) && nat_lt max_tx_size (length (transaction.spell tx)) then 30
+    else broken_number (first_broken (tx_rules tx))
 
 -- ---- locks
 

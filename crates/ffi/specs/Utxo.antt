@@ -1,6 +1,6 @@
 -- What is reported about a set of coins: of blocks that are connected to it, and of transactions.
---     22 the transaction has more inputs and outputs than fit into a block
-use Rattle.std.specs.Prelude.{◌≡◌, ℕ, ◌+◌, ◌<◌, ◌⊎◌, not, ◌==◌, Bool, ℤ, pos, negsuc, int_lt, if◌then◌else◌, List, ◌++◌, length, Option, None, Some}
+--     22 the transaction has more inputs and outputs than fit into a block    25 a median that the block asks for isn't given
+use Rattle.std.specs.Prelude.{◌≡◌, ℕ, ◌+◌, ◌<◌, ◌⊎◌, not, ◌==◌, Bool, true, false, ℤ, pos, negsuc, int_lt, if◌then◌else◌, List, ◌++◌, length, Option, None, Some}
 use Rattle.txn.specs.declared.outpoint.OutPoint.{OutPoint}
 use Rattle.txn.specs.declared.reason.Reason.{Reason}
 use Rattle.txn.specs.declared.tx.Tx.{Tx}
@@ -23,6 +23,7 @@ use Rattle.ffi.specs.declared.shown.BrokenRule.{BrokenRule}
 use Rattle.ffi.specs.declared.shown.InputsTold.{InputsTold}
 use Rattle.ffi.specs.Answers.{Listed, IsNextShown, params_of}
 use Rattle.ffi.specs.Codes.{input_of_reason, transaction_of_reason}
+use Rattle.ffi.specs.Medians.{lacks_medians, with_cutoff}
 use Rattle.ffi.specs.Refusals.{broken_number}
 use Rattle.ffi.specs.UtxoState.{Connected, IsBlockFault, IsLearnt, IsNoAnswer, IsTakenBack, UtxoState, known_by, left_by, new_utxo, with_coin}
 
@@ -32,7 +33,12 @@ abbrev pub coin_of : ShownCoin → List ℕ → Coin
 coin_of row script = record { value = row.value; script = script; height = row.height; coinbase = not (row.coinbase == 0) }
 
 abbrev pub setting_of : BlockSetting → Setting
-setting_of s = record { height = s.height; cutoff = s.cutoff; medians = s.medians.now; rules = at (params_of s.heights) s.height }
+setting_of s = record {
+  height = s.height;
+  cutoff = s.cutoff;
+  medians = with_cutoff s.medians.now s.height s.cutoff;
+  rules = at (params_of s.heights) s.height;
+}
 
 -- ---- changes
 
@@ -65,10 +71,17 @@ pub record IsFaultFound (s : Setting) (before after : UtxoState) (block : Block)
   pub told_is : told ≡ fault_row found
 
 -- it is reported, or there is no answer, and what is reported stays
-abbrev pub IsConnectTold : Setting → Block → BrokenRule → BrokenRule → ℕ → UtxoState → UtxoState → Type 0
-IsConnectTold s block told_before told result before after =
+abbrev pub IsFaultTold : Setting → Block → BrokenRule → BrokenRule → ℕ → UtxoState → UtxoState → Type 0
+IsFaultTold s block told_before told result before after =
     ((result ≡ 0) × IsFaultFound s before after block told)
     ⊎ (IsNoAnswer s before after block result × (told ≡ told_before))
+
+-- Where a median that it asks for isn't given nothing else is looked at. Memory may always run out.
+abbrev pub IsConnectTold : Setting → Block → BrokenRule → BrokenRule → ℕ → UtxoState → UtxoState → Type 0
+IsConnectTold s block told_before told result before after =
+    ((lacks_medians s before.coins block ≡ true) × (result ≡ 25) × (after ≡ before) × (told ≡ told_before))
+    ⊎ (((lacks_medians s before.coins block ≡ false) × IsFaultTold s block told_before told result before after)
+    ⊎ ((result ≡ 1) × (after ≡ before) × (told ≡ told_before)))
 
 -- ---- a transaction
 

@@ -36,6 +36,8 @@ pub(crate) const CONTRADICTION: u32 = 30;
 
 /// Signatures have to be found out first; nothing else changed.
 pub(crate) const WANTS: u32 = 31;
+/// The room for the line of a signature that a run asks for is too small; how long it is was told.
+pub(crate) const ASKED_TOO_SMALL: u32 = 32;
 
 /// An id, in the order in which it is hashed and sent.
 #[repr(C)]

@@ -9,25 +9,25 @@ ghost use Rattle.interp.specs.Question.{question};
 ghost use Rattle.interp.specs.computed.NamedFailures.{eval_script};
 ghost use Rattle.txn.specs.computed.Reader.{tx_at};
 ghost use Rattle.ffi.specs.Known.{asked_of};
-ghost use Rattle.ffi.specs.NamedFailures.{flags_in, all_sizes, sizes_of, bytes_in, rooms, IsAnswered, IsByTables, IsOfOne, IsOfStack, IsLeftTold};
+ghost use Rattle.ffi.specs.NamedFailures.{flags_in, all_sizes, sizes_of, bytes_in, rooms, IsByTables, IsLineAsked, IsOfOne, IsOfStack, IsLeftTold, IsRunAnswered};
 ghost use Rattle.ffi.specs.Refusals.{IsTold};
 
-use crate::answers::{DONE, MEMORY, MISMATCH, NO_INPUT, TOO_SMALL};
+use crate::answers::{ASKED_TOO_SMALL, DONE, MEMORY, MISMATCH, NO_INPUT, TOO_SMALL};
 use crate::known::{known_of, tell_line};
 use crate::named_failures::{flags_in, number_of};
 use crate::room::put;
 use crate::shown::ShownStack;
 use crate::transactions::front;
 use interp::{Element, Job, Pile, ScriptError, Unverified, eval_script};
-use signatures::FoundTables;
+use signatures::{FoundTables, KeptTriple};
 use std::alloc::Global;
 use txn::Tx;
 use wire::{Cursor, Memory};
 
 /// The stack that a script leaves, or the number of its failure, as a script of an input of a transaction under these
 /// rules, by two tables: of signatures that are valid and of others that aren't. Where it asks for one of which nothing is
-/// known, its line is put at the front of what is passed for it. Where a line of a table can't be read, `line` is its
-/// number, from 1.
+/// known, its line is put at the front of what is passed for it, or `ASKED_TOO_SMALL` is answered. Where a line of a table can't be
+/// read, `line` is its number, from 1.
 #[unsafe(no_mangle)]
 pub extern "C" fn ffi_eval_script(
     alloc: Global,
@@ -53,7 +53,7 @@ pub extern "C" fn ffi_eval_script(
         let untold = (shown.new ≡ shown.old) × (put' ≡ put) in
         let kept = (line.new ≡ line.old) × (after ≡ before) × untold in
         IsTold (tx_at bytes.now) (λ tx. IsOfOne tx input (IsOfStack sizes.now elements.now (λ stack.
-        IsByTables (lines valid.now) (lines invalid.now) (λ found. IsAnswered
+        IsByTables (lines valid.now) (lines invalid.now) (λ found. IsRunAnswered
         (eval_script (verdict_in found) (question tx input script.now (flags_in flags)) script.now
         stack) (λ named. IsLeftTold named shown.new put put' result) untold before after result)
         line.old line.new ((after ≡ before) × untold) result) kept result) kept result)
@@ -112,7 +112,7 @@ fn tell_by_tables(
         let put = rooms left_sizes.old left.old in
         let put' = rooms left_sizes.new left.new in
         let untold = (shown.new ≡ shown.old) × (put' ≡ put) in
-        IsByTables (lines valid.now) (lines invalid.now) (λ found. IsAnswered
+        IsByTables (lines valid.now) (lines invalid.now) (λ found. IsRunAnswered
         (eval_script (verdict_in found) (question tx.now input script.now (flags_in flags))
         script.now stack) (λ named. IsLeftTold named shown.new put put' result) untold before after
         result) line.old line.new ((after ≡ before) × untold) result }
@@ -144,7 +144,7 @@ fn tell_eval(
         let after = asked_of asked.new count.new in
         let put = rooms left_sizes.old left.old in
         let put' = rooms left_sizes.new left.new in
-        IsAnswered (eval_script (verdict_in known.now)
+        IsRunAnswered (eval_script (verdict_in known.now)
         (question tx.now input script.now (flags_in flags)) script.now stack)
         (λ named. IsLeftTold named shown.new put put' result)
         ((shown.new ≡ shown.old) × (put' ≡ put)) before after result }
@@ -160,7 +160,20 @@ fn tell_eval(
             DONE
         }
         Err(Unverified::Memory) => MEMORY,
-        Err(Unverified::Unknown(triple)) => tell_line(alloc, &triple, asked, count),
+        Err(Unverified::Unknown(triple)) => ask(alloc, &triple, asked, count),
+    }
+}
+
+/// The line of a triple that is asked for. The rooms for a stack may be too small too, so a line without room has a number of
+/// its own.
+fn ask(alloc: Global, triple: &KeptTriple, asked: &mut [u8], count: &mut u64) -> u32
+    ensures { let before = asked_of asked.old count.old in
+        let after = asked_of asked.new count.new in
+        IsLineAsked triple.now before after result ⊎ ((result ≡ 1) × (after ≡ before)) }
+{
+    match tell_line(alloc, triple, asked, count) {
+        TOO_SMALL => ASKED_TOO_SMALL,
+        code => code,
     }
 }
 

@@ -19,6 +19,7 @@ mod known;
 pub mod laws;
 mod lists;
 mod lookups;
+mod medians;
 mod merkle;
 mod named_failures;
 mod parsed_known;

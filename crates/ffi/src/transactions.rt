@@ -7,7 +7,7 @@ ghost use Rattle.rules.specs.Alone.{tx_sigops};
 ghost use Rattle.locks.specs.Finality.{is_final};
 ghost use Rattle.ffi.specs.Refusals.{IsTold, bit, broken_number};
 ghost use Rattle.ffi.specs.inside.Parts.{IsRefusal, tx_number};
-ghost use Rattle.ffi.specs.Transactions.{AreLocksTold, ShowsTx, counted, start_of};
+ghost use Rattle.ffi.specs.Transactions.{AreLocksTold, ShowsTx, core_number, counted, start_of};
 
 use crate::answers::{DONE, MEMORY, MISMATCH, Name};
 use crate::shown::{ShownTx, Start};
@@ -16,6 +16,11 @@ use rules::tx_sigops;
 use std::alloc::Global;
 use txn::{Reason, Tx, TxFault, check, read};
 use wire::{Cursor, Memory};
+
+/// A transaction has at most so many bytes without witnesses.
+const MAX_TX_SIZE: usize = 1_000_000;
+/// The number of the rule that it has no more.
+const OVERSIZE: u32 = 30;
 
 /// Why there is no transaction, by its number.
 pub(crate) fn refusal(fault: TxFault) -> u32
@@ -104,6 +109,40 @@ fn show(alloc: Global, tx: &Tx, size: u64) -> Result<ShownTx, Memory>
         coinbase: tx.is_coinbase() as u32,
         reason: broken(found),
     })
+}
+
+/// The first rule that it breaks by itself, by Bitcoin Core's rule of sizes too; 0 where there is none.
+#[unsafe(no_mangle)]
+pub extern "C" fn ffi_tx_check(alloc: Global, bytes: &[u8], reason: &mut u32) -> u32
+    ensures { IsTold (tx_at bytes.now)
+        (λ tx. (result ≡ 0) × (reason.new ≡ core_number tx))
+        (reason.new ≡ reason.old) result }
+{
+    let mut cursor = Cursor::new(bytes);
+    match front(alloc, &mut cursor) {
+        Err(code) => code,
+        Ok(tx) => {
+            let size = bytes.len() - cursor.rest().len();
+            match core_number(alloc, &tx, size) {
+                Err(_) => MEMORY,
+                Ok(found) => {
+                    *reason = found;
+                    DONE
+                }
+            }
+        }
+    }
+}
+
+fn core_number(alloc: Global, tx: &Tx, size: usize) -> Result<u32, Memory>
+    requires { size ≡ length (transaction.spell tx.now) }
+    ensures { IfOk result (λ found. found ≡ core_number tx.now) }
+{
+    if tx.inputs.len() != 0 && tx.outputs.len() != 0 && size > MAX_TX_SIZE {
+        return Ok(OVERSIZE);
+    }
+    let found = check(alloc, tx)?;
+    Ok(broken(found))
 }
 
 /// Whether it may stand in a block of this height. The cutoff is the time that its lock time must lie below.

@@ -40,14 +40,15 @@ pub(crate) fn take_tx(alloc: Global, slot: &mut TxSlot) -> Option<Box<Precompute
     if full { Some(kept.into_box()) } else { None }
 }
 
-/// Only what may go to any thread is put into a slot: the prover asks for it where this is called.
-fn goes_to_any_thread<T: Send>(_value: &T) {}
+/// Only what may go to any thread, and be read by several at once, is put into a slot: the prover asks for it where this is
+/// called.
+fn is_for_threads<T: Send + Sync>(_value: &T) {}
 
 /// Puts a transaction there.
 pub(crate) fn put_tx(slot: &mut TxSlot, tx: Box<PrecomputedTx>)
     ensures { slot.new.kept.value ≡ Some tx.value }
 {
-    goes_to_any_thread(&*tx);
+    is_for_threads(&*tx);
     *slot = TxSlot {
         full: true,
         kept: KeptTx::of(tx),

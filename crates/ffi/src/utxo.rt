@@ -20,9 +20,11 @@ ghost use Rattle.connect.specs.ConnectedBlock.{IsConnected};
 ghost use Rattle.connect.specs.Faults.{fee};
 ghost use Rattle.connect.specs.Turns.{effect, turn};
 ghost use Rattle.connect.specs.Scripts.{AreWantedByBlock};
+ghost use Rattle.ffi.specs.Medians.{lacks_medians};
 ghost use Rattle.ffi.specs.Utxo.{spent_last, tx_fault};
 ghost use Rattle.ffi.specs.UtxoState.{IsBlockFault, IsLearnt, IsNoAnswer, IsTakenBack, known_by, left_by, new_utxo, with_coin};
 
+use crate::medians::lacks_medians;
 use crate::answers::{CONTRADICTION, DONE, MEMORY, NONE, WANTS};
 use block::Block;
 use coins::{Base, Cache, Changes, Coin, CoinMap};
@@ -129,6 +131,13 @@ impl Utxo {
         ensures { IsNext self.now.coins (option_copied at.entry) (option_map deref_pair result) }
     {
         self.coins.after(at)
+    }
+
+    /// Whether a relative lock of a block counts from a median that isn't given.
+    pub(crate) fn lacks_medians(&self, context: &Context, block: &Block) -> bool
+        ensures { result ≡ lacks_medians (setting context.now) self.now.coins block.now }
+    {
+        lacks_medians(&self.coins, context, block)
     }
 
     /// Connects a block: the first rule that it breaks, or none; or the number that says why there is no answer.

@@ -1,6 +1,6 @@
 //! Coins that C gives, over which it has blocks connected and transactions checked.
 
-ghost use Rattle.std.specs.Prelude.{◌≡◌, ◌==◌, not, pos, None, IfOk, IfErr, slice_get};
+ghost use Rattle.std.specs.Prelude.{◌≡◌, ◌==◌, not, pos, None, IfOk, IfErr, IfSome, IfNone, slice_get};
 ghost use Rattle.txn.specs.Reason.{number_of};
 ghost use Rattle.std.specs.FinMap as coin_map;
 ghost use Rattle.txn.specs.computed.Reader.{tx_at};
@@ -11,12 +11,13 @@ ghost use Rattle.signatures.specs.Triple.{triple_of};
 ghost use Rattle.ffi.specs.Answers.{IsCoinShown, IsWantShown, above_of, close_number, outpoint_of};
 ghost use Rattle.ffi.specs.Known.{asked_of};
 ghost use Rattle.ffi.specs.Lookups.{IsSpentShown};
+ghost use Rattle.ffi.specs.Medians.{with_cutoff};
 ghost use Rattle.ffi.specs.ParsedTransaction.{IsOfKept};
 ghost use Rattle.ffi.specs.Refusals.{IsBlockTold, IsFaultTold, IsTold};
 ghost use Rattle.ffi.specs.UtxoState.{IsLearnt, IsTakenBack, known_by};
 ghost use Rattle.ffi.specs.Utxo.{AreInputsTold, Becomes, IsConnectTold, IsNextIn, IsPut, IsUtxoOpened, coin_of, fault_row, nearest, setting_of, spent_last};
 
-use crate::answers::{CLOSED, DONE, FULL, MEMORY, NONE, Name, Place, ShownCoin, ShownSpent};
+use crate::answers::{CLOSED, DONE, FULL, MEMORY, MISMATCH, NONE, Name, Place, ShownCoin, ShownSpent};
 use crate::block_rules::refusal;
 use crate::known::tell_line;
 use crate::lists::{outpoint, tell_coin, tell_next};
@@ -238,7 +239,8 @@ fn show_want(alloc: Global, utxo: &Utxo, index: usize, asked: &mut [u8], count: 
 }
 
 /// Connects the block of these bytes to the coins, as a block of this setting: the first rule that it breaks by itself or
-/// over them, by what is known of signatures. Its place under its parent isn't asked.
+/// over them, by what is known of signatures. Its place under its parent isn't asked. Where a relative lock counts from a median
+/// that isn't given, it isn't looked at.
 #[unsafe(no_mangle)]
 pub extern "C" fn ffi_connect(
     alloc: Global,
@@ -277,6 +279,43 @@ fn connect_block(
     ensures { IsConnectTold (setting_of setting.now) block fault.old fault.new result
         utxo.old utxo.new }
 {
+    match with_cutoff(alloc, setting) {
+        Err(Memory) => MEMORY,
+        Ok(None) => connect_by(alloc, utxo, block, setting, setting.medians, fault),
+        Ok(Some(all)) => connect_by(alloc, utxo, block, setting, all.as_slice(), fault),
+    }
+}
+
+/// The medians with the parent's, which is the cutoff, where only that lacks.
+fn with_cutoff(alloc: Global, setting: &BlockSetting) -> Result<Option<Vec<u32>>, Memory>
+    ensures all { let s = setting.now in IfOk result (λ found. IfSome found (λ all.
+        with_cutoff s.medians.now s.height s.cutoff ≡ all.items)) }
+    ensures given { let s = setting.now in IfOk result (λ found. IfNone found
+        (with_cutoff s.medians.now s.height s.cutoff ≡ s.medians.now)) }
+{
+    if setting.medians.len() != setting.height.saturating_sub(1) as usize {
+        return Ok(None);
+    }
+    let mut all = Vec::new(alloc);
+    all.extend_from_slice(setting.medians)?;
+    all.push(setting.cutoff)?;
+    Ok(Some(all))
+}
+
+/// The same by all medians.
+fn connect_by(
+    alloc: Global,
+    utxo: &mut Utxo,
+    block: Block,
+    setting: &BlockSetting,
+    medians: &[u32],
+    fault: &mut BrokenRule,
+) -> u32
+    requires { let s = setting.now in
+        with_cutoff s.medians.now s.height s.cutoff ≡ medians.now }
+    ensures { IsConnectTold (setting_of setting.now) block fault.old fault.new result
+        utxo.old utxo.new }
+{
     let params = Params {
         bip34: setting.heights.bip34,
         bip65: setting.heights.bip65,
@@ -286,9 +325,12 @@ fn connect_block(
     let context = Context {
         height: setting.height,
         cutoff: setting.cutoff,
-        medians: setting.medians,
+        medians,
         params: &params,
     };
+    if utxo.lacks_medians(&context, &block) {
+        return MISMATCH;
+    }
     match utxo.connect(alloc, &context, block) {
         Err(code) => code,
         Ok(found) => {

@@ -105,6 +105,35 @@ class BenchTest(unittest.TestCase):
             self.assertEqual(bench.try_submit(block, NOW).text, reply)
             bench.invalidate(block_id(block))
 
+    def test_nothing_that_is_known_is_asked(self):
+        """Of a script that asks for many signatures some are in the table, on which libsecp256k1 would say otherwise: it isn't
+        asked about them, also where what is asked for next is guessed, and about no signature twice."""
+        script = multisig(3, KEYS)
+        bench = self.mined(script)
+        tx = spend(self.coin(), 0, 5000000000, b"")
+        signatures = signed(SECP, SECRETS, tx, 0, script, 1)
+        # The second one is of another digest.
+        signatures[1] = signed(SECP, SECRETS[1:2], spend(self.coin(1), 0, 1, b""), 0, script, 1)[0]
+        block = self.maker.block(bench.best(), [with_script(tx, 0, b"", *signatures)])
+        digest = c.signature_digest(write_transaction(tx), 0, script, 1)
+        triples = [c.Triple(key, signature[:-1], digest) for key, signature in zip(KEYS, signatures)]
+        self.assertEqual([SECP.valid(triple) for triple in triples], [True, False, True])
+        for known in ([1], [1, 2], [0, 1, 2]):
+            with self.subTest(known=known), Bench(table=b"".join(triples[place].line for place in known)) as other:
+                asked = []
+                verdicts = other._verifier.verdicts
+                other._verifier.verdicts = lambda lines: asked.extend(lines) or verdicts(lines)
+                for one in self.blocks:
+                    other.submit(one, NOW)
+                self.assertEqual(other.judge(block, NOW).text, "accepted")
+                self.assertEqual(other.submit(block, NOW), "accepted")
+                self.assertEqual(len(asked), len(set(asked)))
+                told = {triple.line[:-1] for place, triple in enumerate(triples) if place in known}
+                self.assertFalse(told & set(asked))
+                with other.copy() as copied:
+                    self.assertTrue(all(copied._test(triples).values()))
+                self.assertEqual(len(asked), len(set(asked)))
+
     def test_only_what_is_asked_gets_into_the_table(self):
         # A signature that is valid by a key that is dropped, and another that isn't tried.
         script = push(KEYS[1]) + b"\x75" + pay_to_key(KEYS[0])

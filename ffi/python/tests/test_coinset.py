@@ -87,6 +87,31 @@ class ConnectTest(unittest.TestCase):
         there = self.coins((id_of(again), 0, Coin(1, TRUE, 3, True)))
         self.assertEqual(self.fault(there, block(200)), "bad-txns-BIP30 0:0")
 
+    def test_a_transaction_of_too_many_bytes(self) -> None:
+        """Bitcoin Core's `CheckTransaction` refuses more than 1,000,000 bytes (`bad-txns-oversize`), behind those without inputs or
+        outputs and before all else. It is asked where the caller says so."""
+        coins = self.coins((ONE, 0, Coin(5, TRUE, 4, False)))
+        for size, word in ((1000000, 4), (1000001, "bad-txns-oversize")):
+            bare = write_transaction(tx((ONE, 0), scripts=[bytes(100000)]))
+            data = write_transaction(tx((ONE, 0), scripts=[bytes(100000 + size - len(bare))]))
+            self.assertEqual(len(data), size)
+            self.assertEqual(coins.check_tx_inputs(data, 200), 4)
+            self.assertEqual(coins.check_tx_inputs(data, 200, oversize=True), word)
+            self.assertEqual(consensus.transaction(data).reason, "")
+            self.assertEqual(consensus.transaction(data, oversize=True).reason, "" if word == 4 else word)
+            missing = write_transaction(tx((TWO, 0), scripts=[bytes(size)]))
+            self.assertEqual(coins.check_tx_inputs(missing, 200), "bad-txns-inputs-missingorspent")
+            self.assertEqual(coins.check_tx_inputs(missing, 200, oversize=True), "bad-txns-oversize")
+        # More inputs than a block has room for.
+        many = b"\1\0\0\0\xfe" + (1000000).to_bytes(4, "little") + bytes(41 * 1000000)
+        nothing, pays = many + bytes(5), many + b"\1" + bytes(9) + bytes(4)
+        self.assertEqual(coins.check_tx_inputs(pays, 200, oversize=True), "bad-txns-oversize")
+        self.assertEqual(coins.check_tx_inputs(nothing, 200, oversize=True), "bad-txns-vout-empty")
+        self.assertEqual(coins.check_tx_inputs(nothing, 200), "bad-txns-vout-empty")
+        coins.close()
+        with self.assertRaises(Closed):
+            coins.check_tx_inputs(pays, 200, oversize=True)
+
     def test_scripts(self) -> None:
         both = (ONE, 0, Coin(5, b"\x52\x87", 5, False)), (ONE, 1, Coin(5, b"\x53\x87", 5, False))
         for scripts, word in (
@@ -106,6 +131,63 @@ class ConnectTest(unittest.TestCase):
             own = mine(BELOW, TIME + 600, [coinbase(height, subsidy(height), TRUE), tx((ONE, 0), version=2, sequence=3)])
             self.assertEqual(self.fault(self.coins(coin), own, height), word)
         self.assertEqual(self.fault(self.coins(coin), deep), "")
+
+    def test_too_few_medians(self) -> None:
+        """A lock by time of 3 units counts from the median below its coin. Where that isn't given there is no answer: not by 0,
+        from which the lock would be met."""
+        def lock(*spent: Tuple[bytes, int]) -> Transaction:
+            return tx(*spent, version=2, sequence=(1 << 22) | 3)
+
+        coins = self.coins((ONE, 0, Coin(5, TRUE, 4, False)))
+        data, before = block(200, lock((ONE, 0))), coins.coins()
+        for count in range(6):
+            medians = [TIME] * count
+            if count < 4:
+                with self.assertRaisesRegex(consensus.Refused, "mismatch"):
+                    coins.connect(data, 200, TIME, medians)
+                self.assertEqual(coins.coins(), before)
+                self.assertFalse(coins.disconnect())
+            else:
+                self.assertEqual(self.fault(coins, data, 200, medians), "bad-txns-nonfinal 0:0")
+        # Of genesis' coins, and of those above it, it is genesis' own.
+        for height in (0, 1):
+            with self.assertRaisesRegex(consensus.Refused, "mismatch"):
+                self.coins((ONE, 0, Coin(5, TRUE, height, False))).connect(data, 200, TIME)
+            self.assertEqual(self.fault(self.coins((ONE, 0, Coin(5, TRUE, height, False))), data, 200, [TIME - 3 * 512]), "")
+
+    def test_the_parents_median_is_the_cutoff(self) -> None:
+        """A coin of the block itself counts from its parent's median, from which no lock of 1 unit is met."""
+        for count, units in ((5, 1), (6, 1), (5, 0), (6, 0)):
+            first = tx((ONE, 0), pays=(5,))
+            second = tx((id_of(first), 0), pays=(5,), version=2, sequence=(1 << 22) | units)
+            data = mine(BELOW, TIME + 600, [coinbase(6, subsidy(6), TRUE), first, second])
+            coins = self.coins((ONE, 0, Coin(5, TRUE, 4, False)))
+            word = "bad-txns-nonfinal 0:0" if units else ""
+            self.assertEqual(self.fault(coins, data, 6, [0, 0, 0, 0, 0, TIME][:count]), word)
+        with self.assertRaisesRegex(consensus.Refused, "mismatch"):
+            self.coins((ONE, 0, Coin(5, TRUE, 4, False))).connect(data, 6, TIME, [0, 0, 0, 0])
+        # A coin of the parent's own height counts from the block below that one.
+        late = tx((ONE, 0), version=2, sequence=(1 << 22) | 1)
+        data = mine(BELOW, TIME + 600, [coinbase(6, subsidy(6), TRUE), late])
+        for median, word in ((TIME - 512, ""), (TIME - 511, "bad-txns-nonfinal 0:0")):
+            self.assertEqual(self.fault(self.coins((ONE, 0, Coin(5, TRUE, 5, False))), data, 6, [0, 0, 0, 0, median]), word)
+
+    def test_medians_that_no_lock_asks_for(self) -> None:
+        """By blocks, disabled, of another version, before BIP 68 is in force, and of a coinbase."""
+        given = (ONE, 0, Coin(5, TRUE, 4, False))
+        for version, sequence in ((2, 3), (2, 1 << 31 | 1 << 22 | 3), (1, 1 << 22 | 3), (0, 1 << 22 | 3)):
+            data = block(200, tx((ONE, 0), version=version, sequence=sequence))
+            self.assertEqual(self.fault(self.coins(given), data), "")
+        data = block(200, tx((ONE, 0), version=2, sequence=1 << 22 | 3))
+        self.assertIsNone(self.coins(given).connect(data, 200, TIME, heights=(1, 1, 1, 201)))
+        with self.assertRaisesRegex(consensus.Refused, "mismatch"):
+            self.coins(given).connect(data, 200, TIME, heights=(1, 1, 1, 200))
+        # Versions are unsigned.
+        with self.assertRaisesRegex(consensus.Refused, "mismatch"):
+            self.coins(given).connect(block(200, tx((ONE, 0), version=-1, sequence=1 << 22 | 3)), 200, TIME)
+        plain = coinbase(200, subsidy(200), TRUE)
+        timed = plain._replace(version=2, inputs=[plain.inputs[0]._replace(sequence=1 << 22 | 3)])
+        self.assertEqual(self.fault(self.coins(given), mine(BELOW, TIME + 600, [timed, tx((ONE, 0))])), "")
 
     def test_by_itself(self) -> None:
         good = block(200)

@@ -1,7 +1,7 @@
 """A test bench: the proved chainstate with real signatures."""
 
 from types import TracebackType
-from typing import Callable, Dict, Iterator, List, NamedTuple, NoReturn, Optional, Sequence, Set, Tuple, Type, Union
+from typing import Callable, Dict, Iterator, List, Mapping, NamedTuple, NoReturn, Optional, Sequence, Tuple, Type, Union
 
 from . import ahead, arguments, consensus, errors
 from .arguments import id_of, instance, number, octets
@@ -12,7 +12,7 @@ from .consensus import Triple
 from .encoding import EncodingError, Spelled, block_at_front, double_sha
 from .index import Index, Unspent, Walks
 from .library import Answer
-from .signatures import Verifier
+from .signatures import Verifier, signatures_of
 
 
 class Entry(NamedTuple):
@@ -46,7 +46,7 @@ class Bench(Walks):
 
     It has the calls of `Chainstate`, and walks over blocks: `parent`, `branch`, `is_kept`.
 
-    table: signatures that are known to be valid, as lines.
+    table: signatures that are known to be valid, as lines: libsecp256k1 isn't asked about them, nor about any twice.
     threads: how many threads test signatures at once, the caller's among them; 1 starts none. By default one for each
         processor that the process may use, at most 8. Verdicts, replies and the table are the same for any number.
     """
@@ -68,11 +68,12 @@ class Bench(Walks):
         self._table = bytearray(arguments.lines(table, "table"))
         if self._table and not self._table.endswith(b"\n"):
             self._table += b"\n"
-        known = consensus.Table(bytes(self._table))
+        #: What is known of signatures: those of the table, and what libsecp256k1 said; and which of them the chainstate has.
+        self._verdicts = {triple: True for triple in signatures_of(consensus.Table(bytes(self._table)).text)}
+        self._learnt = set(self._verdicts)
         self.chain = Chainstate(self.heights, by_need=True)
-        for line in known.text.splitlines():
-            if line.split() and not line.startswith(b"#"):
-                self.chain.learn(Triple.of_line(line), True)
+        for triple in self._learnt:
+            self.chain.learn(triple, True)
 
     @property
     def journal(self) -> List[Entry]:
@@ -121,6 +122,7 @@ class Bench(Walks):
         found.taken = lambda *words: None
         found.rounds = found.found_out = 0
         found._index, found._verifier, found._table = self._index.copy(), self._verifier, bytearray(self._table)
+        found._verdicts, found._learnt = dict(self._verdicts), set(self._learnt)
         found.chain = self.chain.copy()
         return found
 
@@ -228,43 +230,43 @@ class Bench(Walks):
 
     def _by_need(self, step: _Step, command: Callable[[], Reply]) -> Reply:
         """Makes a command, and finds out what it wants, until it is taken."""
-        verdicts: Dict[Triple, bool] = {}
-        known: Set[Triple] = set()
+        is_again = False
         while True:
             try:
                 return command()
             except errors.Wants as wants:
                 self.rounds += 1
-                is_again = bool(known)
-                verdicts.update(self._test(wants.triples, wants.lines))
-                self._learn(wants.triples, wants.lines, verdicts)
-                known.update(wants.triples)
+                self._learn(self._test(wants.triples, wants.lines))
                 # What the scripts that wanted something will want next.
                 asking = ahead.asking(wants.triples, self._places(step), self.transaction, is_again)
-                asked = ahead.found_out(asking, verdicts, lambda more: list(self._test(more).values()))
-                asked = [triple for triple in asked if triple not in known]
-                self._learn(asked, [triple.line[:-1] for triple in asked], verdicts)
-                known.update(asked)
+                asked = ahead.found_out(asking, self._verdicts, lambda more: list(self._test(more).values()))
+                self._learn(self._test(asked))
+                is_again = True
 
     def _find_out(self, lines: Sequence[bytes]) -> List[bool]:
-        """Whether the signatures of lines are valid, as libsecp256k1 says. That stays known."""
-        triples = Triple.of_lines(lines)
-        verdicts = self._test(triples, lines)
-        self._learn(triples, lines, verdicts)
-        return [verdicts[triple] for triple in triples]
+        """Whether the signatures of lines are valid. That stays known."""
+        verdicts = self._test(Triple.of_lines(lines), lines)
+        self._learn(verdicts)
+        return list(verdicts.values())
 
     def _test(self, triples: Sequence[Triple], lines: Optional[Sequence[bytes]] = None) -> Dict[Triple, bool]:
-        """Asks libsecp256k1 about signatures."""
+        """Whether signatures are valid. libsecp256k1 is asked about those that aren't known."""
         told = [triple.line[:-1] for triple in triples] if lines is None else lines
-        return dict(zip(triples, self._verifier.verdicts(told)))
+        unknown = {triple: line for triple, line in zip(triples, told) if triple not in self._verdicts}
+        if unknown:
+            self._verdicts.update(zip(unknown, self._verifier.verdicts(list(unknown.values()))))
+        return {triple: self._verdicts[triple] for triple in triples}
 
-    def _learn(self, triples: Sequence[Triple], lines: Sequence[bytes], verdicts: Dict[Triple, bool]) -> None:
-        """Gives the verdicts to the chainstate."""
-        for triple, line in zip(triples, lines):
+    def _learn(self, verdicts: Mapping[Triple, bool]) -> None:
+        """Gives the verdicts to the chainstate, those that it doesn't have."""
+        for triple, valid in verdicts.items():
+            if triple in self._learnt:
+                continue
             # First the table: where this is interrupted, it has all that the chainstate knows, perhaps a line twice.
-            if verdicts[triple]:
-                self._table += line + b"\n"
-            self.chain.learn(triple, verdicts[triple])
+            if valid:
+                self._table += triple.line
+            self.chain.learn(triple, valid)
+            self._learnt.add(triple)
             self.found_out += 1
 
     def _places(self, step: _Step) -> Iterator[ahead.Place]:

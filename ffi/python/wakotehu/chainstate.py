@@ -161,10 +161,8 @@ class _Held:
     def _want_lines(self) -> List[bytes]:
         """Their lines in the text of a table, each once."""
         needed, lines = ctypes.c_size_t(), ctypes.create_string_buffer(8192)
-        for _ in range(2):
-            code = self._of("want_lines")(self._handle, lines, len(lines), ctypes.byref(needed))
-            if code != 5:
-                break
+        # Another thread's command may want more meanwhile.
+        while (code := self._of("want_lines")(self._handle, lines, len(lines), ctypes.byref(needed))) == 5:
             lines = ctypes.create_string_buffer(needed.value)
         self._check(code)
         # A newline stands in front of each.
@@ -182,10 +180,7 @@ class _Held:
         """The coin at an outpoint, or None."""
         id, index = id_of(id), number(index, "index")
         coin, script = _Coin(), ctypes.create_string_buffer(128)
-        for _ in range(2):
-            code = self._of("coin_at")(self._handle, id, index, ctypes.byref(coin), script, len(script))
-            if code != 5:
-                break
+        while (code := self._of("coin_at")(self._handle, id, index, ctypes.byref(coin), script, len(script))) == 5:
             script = ctypes.create_string_buffer(coin.script)
         if code == 4:
             return None
@@ -215,11 +210,7 @@ class _Held:
     def _spent(self, name: str, *words: object) -> Optional[List[Coin]]:
         """The coins that a block spent, or None where the call answers that there is no such block."""
         size, coins, scripts = _SpentSize(), (_Coin * 16)(), ctypes.create_string_buffer(1024)
-        for _ in range(2):
-            room = coins, len(coins), scripts, len(scripts)
-            code = self._of(name)(self._handle, *words, *room, ctypes.byref(size))
-            if code != 5:
-                break
+        while (code := self._of(name)(self._handle, *words, coins, len(coins), scripts, len(scripts), ctypes.byref(size))) == 5:
             coins, scripts = (_Coin * size.coins)(), ctypes.create_string_buffer(size.scripts or 1)
         if code == 4:
             return None
@@ -360,10 +351,7 @@ class Chainstate(_Held):
         Kept are the blocks that were accepted or inconclusive, and those that were refused over the coins.
         """
         id, needed, data = id_of(id), ctypes.c_size_t(), ctypes.create_string_buffer(4096)
-        for _ in range(2):
-            code = self._library.wakotehu_block(self._handle, id, data, len(data), ctypes.byref(needed))
-            if code != 5:
-                break
+        while (code := self._library.wakotehu_block(self._handle, id, data, len(data), ctypes.byref(needed))) == 5:
             data = ctypes.create_string_buffer(needed.value)
         if code == 4:
             return None

@@ -62,7 +62,9 @@ class CoinSet(_Held):
         after it. Bytes that are no block raise `Refused`.
 
         cutoff: the median time past of its parent. medians: those of its parent's branch by height, genesis first, as far
-        as relative locks ask for them.
+        as relative locks by time ask for them: each counts from the median of the block below the coin that it spends, which
+        is of this block where the set doesn't have it. The parent's may be left out where all below it are there. Too few
+        raise `Refused` ("mismatch"), whatever else the block breaks, and nothing changes.
         """
         block, times = octets(block, "block"), [number(it, "medians") for it in arguments.sequence(medians, "medians")]
         rows = (ctypes.c_uint32 * len(times))(*times)
@@ -88,12 +90,15 @@ class CoinSet(_Held):
         """The coins that the last block spent, in the order of its inputs, as long as it can be taken back."""
         return self._spent("spent")
 
-    def check_tx_inputs(self, data: bytes, height: int) -> Union[int, str]:
+    def check_tx_inputs(self, data: bytes, height: int, oversize: bool = False) -> Union[int, str]:
         """What the transaction at the front of these bytes gives as its fee in a block of this height; or the first rule that
-        it breaks by itself or by the coins that it spends, in Bitcoin Core's word. Locks and scripts aren't asked."""
+        it breaks by itself or by the coins that it spends, in Bitcoin Core's word. Locks and scripts aren't asked.
+
+        oversize: by Bitcoin Core's rule of sizes too, as `consensus.transaction` has it."""
         data, reason, fee = octets(data, "data"), ctypes.c_uint32(), ctypes.c_int64()
         words = len(data), number(height, "height"), ctypes.byref(reason), ctypes.byref(fee)
-        self._told(self._library.wakotehu_check_tx_inputs(self._handle, data, *words))
+        call = "check_transaction_inputs" if arguments.flag(oversize, "oversize") else "check_tx_inputs"
+        self._told(getattr(self._library, f"wakotehu_{call}")(self._handle, data, *words))
         return errors.REASONS[reason.value] or fee.value
 
     def verify_input(

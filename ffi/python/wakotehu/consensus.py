@@ -24,6 +24,12 @@ FAULTS = {
     20: "short", 21: "long form", 22: "too large", 23: "extra", 24: "no such input", 25: "mismatch",
     26: "foreign", 27: "cut", 28: "too long", 30: "contradiction",
 }  # fmt: skip
+#: What a call may answer beside WAKOTEHU_OK that isn't the same for all: its caller reads it.
+_READ = {
+    "record": {4}, "next_opcode": {4}, "read_number": {4}, "read_id": {4}, "table_read": {3}, "table_has": {3}, "verify": {3},
+    "verify_known": {3, 29}, "verify_script": {3, 29}, "tx_verify_input": {3, 29}, "tx_verify_input_known": {29},
+    "tx_verify": {3, 29}, "eval_script": {3, 5, 29, 32},
+}  # fmt: skip
 #: What is wrong with a transaction that is kept.
 _HANDLES = {
     2: (Closed, "the transaction was closed"), 7: (Busy, "another thread is inside a call on the transaction"),
@@ -139,6 +145,7 @@ _BYTES = [c_char_p, c_size_t]
 _YES = [POINTER(c_uint32)]
 _CALLS = {
     "read_transaction": _BYTES + [POINTER(_Transaction)],
+    "check_transaction": _BYTES + _YES,
     "is_final": _BYTES + [c_uint32, c_uint32] + _YES,
     "locks_met": _BYTES + [POINTER(_Start), c_size_t, c_uint32, c_uint32] + _YES,
     "transaction_parts": _BYTES + [POINTER(_Input), c_size_t, POINTER(_Output), c_size_t, c_char_p, c_size_t],
@@ -209,7 +216,7 @@ def _rest_of(data: bytes) -> Callable[[int], Tuple[c_char_p, int]]:
 
 
 def _call(name: str, *args: Any) -> int:
-    """The code that a call answers; lack of memory is a `MemoryError`, a fault a `Refused`."""
+    """The code that a call answers, 0 or one that its caller reads; lack of memory is a `MemoryError`, a fault a `Refused`."""
     global _ready
     if _ready is None:
         loaded = library()
@@ -229,6 +236,8 @@ def _call(name: str, *args: Any) -> int:
         raise ValueError("a length is too large")
     if code in _HANDLES:
         raise _HANDLES[code][0](_HANDLES[code][1])
+    if code and code not in _READ.get(name, ()):
+        raise Error(f"wakotehu_{name} answered {code}")
     return code
 
 
@@ -261,12 +270,19 @@ class Transaction:
     reason: str
 
 
-def transaction(data: bytes) -> Transaction:
-    """The transaction at the front of bytes; `size` of them are its."""
-    f = _Transaction()
+def transaction(data: bytes, oversize: bool = False) -> Transaction:
+    """The transaction at the front of bytes; `size` of them are its.
+
+    oversize: by Bitcoin Core's rule of sizes too, `reason` is "bad-txns-oversize" of more than 1,000,000 bytes (a block of
+        which such a transaction is part breaks its own rule of sizes).
+    """
+    f, reason = _Transaction(), c_uint32()
     _call("read_transaction", *_sized(data), f)
+    if arguments.flag(oversize, "oversize"):
+        _call("check_transaction", *_sized(data), reason)
+    own = reason.value if oversize else f.reason
     return Transaction(
-        bytes(f.id), f.size, f.inputs, f.outputs, f.sigops, f.version, f.lock_time, bool(f.coinbase), REASONS[f.reason]
+        bytes(f.id), f.size, f.inputs, f.outputs, f.sigops, f.version, f.lock_time, bool(f.coinbase), REASONS[own]
     )
 
 
@@ -861,25 +877,29 @@ def eval_script(
     given = [octets(element, "stack") for element in arguments.sequence(stack, "stack")]
     sizes, joined = (c_uint64 * len(given))(*map(len, given)), b"".join(given)
     asked = (*_sized(data), number(input, "input", 64), *_sized(script, "script"), _bits(flags))
-    most, left_sizes = 1000 + len(given), (c_uint64 * (1000 + len(given)))()
+    sizes_left, left, room = (c_uint64 * 1000)(), ctypes.create_string_buffer(65536), ctypes.create_string_buffer(_MOST_ASKED)
 
     def ask(*tables: bytes) -> Union[List[bytes], ScriptError, Triple]:
+        nonlocal sizes_left, left, room
         line, told, needed = c_uint64(), _Evaluated(), c_uint64()
-        left, room = ctypes.create_string_buffer(65536), ctypes.create_string_buffer(_MOST_ASKED)
         known = (*_sized(tables[0]), *_sized(tables[1]), line)
         while True:
-            rooms = (left_sizes, most, left, len(left), room, _MOST_ASKED, needed)
+            rooms = (sizes_left, len(sizes_left), left, len(left), room, len(room), needed)
             code = _call("eval_script", *asked, sizes, len(given), joined, len(joined), *known, told, *rooms)
-            if code != 5 or told.size <= len(left):
+            if code == 5:
+                sizes_left = (c_uint64 * max(told.elements, len(sizes_left)))()
+                left = ctypes.create_string_buffer(max(told.size, len(left)))
+            elif code == 32:
+                room = ctypes.create_string_buffer(needed.value)
+            else:
                 break
-            left = ctypes.create_string_buffer(told.size)
         if code == 3:
             raise BadTable(line.value)
         if code == 29:
             return Triple.of_line(room.raw[: needed.value])
         if told.error:
             return ScriptError(told.error)
-        ends = list(accumulate(left_sizes[: told.elements]))
+        ends = list(accumulate(sizes_left[: told.elements]))
         raw = left.raw[: told.size]
         return [raw[begin:end] for begin, end in zip([0, *ends], ends)]
 

@@ -386,8 +386,8 @@ _KINDS: List[Type[Rejected]] = [
     BadTxnsPrematureSpendOfCoinbase, BadTxnsInBelowout, BadCbAmount, BlkBadInputs,
 ]  # fmt: skip
 
-#: The reasons by their numbers; "" is at 0.
-REASONS: List[str] = ["", *(kind.reason for kind in _KINDS)]
+#: The reasons by their numbers; "" is at 0. The last one is no block's: Bitcoin Core's rule of a transaction's size.
+REASONS: List[str] = ["", *(kind.reason for kind in _KINDS), "bad-txns-oversize"]
 
 #: The exception of each reason.
 BY_REASON: Dict[str, Type[Rejected]] = {kind.reason: kind for kind in _KINDS}

@@ -81,6 +81,7 @@ _CALLS = {
     "connect": [c_uint64, c_char_p, c_size_t, POINTER(Setting), POINTER(Fault)],
     "disconnect": [c_uint64],
     "check_tx_inputs": [c_uint64, c_char_p, c_size_t, c_uint32, POINTER(c_uint32), POINTER(c_int64)],
+    "check_transaction_inputs": [c_uint64, c_char_p, c_size_t, c_uint32, POINTER(c_uint32), POINTER(c_int64)],
 }
 
 

@@ -7,7 +7,7 @@ from .addresses import script_of
 from .arguments import id_of, instance, number, octets, text
 from .bench import Bench
 from .chainstate import Coin
-from .consensus import Table, Triple
+from .consensus import Triple
 from .encoding import Transaction, coinbase, mine_spelled, subsidy, write_transaction
 from .errors import NotFound, TooMany
 from .mempool import MOST_BYTES, Entry, Mempool, Room
@@ -32,7 +32,7 @@ class _Mempool(Mempool):
             return None
 
     def is_valid(self, triple: Triple) -> bool:
-        return Table(self._own.table).has(*triple) or self._own._test([triple])[triple]
+        return self._own._test([triple])[triple]
 
 
 class Pool:
