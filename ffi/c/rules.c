@@ -72,6 +72,7 @@ void ffi_id_show(const uint8_t *id, uint8_t *digits);
 uint32_t ffi_id_read(const uint8_t *text, size_t length, uint8_t *id);
 uint32_t ffi_transactions(const uint8_t *bytes, size_t length, wakotehu_made *rows, size_t most, uint64_t *count);
 
+_Static_assert(sizeof(size_t) == sizeof(uint64_t), "sizes are told as u64");
 _Static_assert(sizeof(wakotehu_transaction) == 80 && offsetof(wakotehu_transaction, reason) == 76, "as ShownTx");
 _Static_assert(sizeof(wakotehu_block_shown) == 176 && offsetof(wakotehu_block_shown, reason) == 168, "as ShownBlock");
 _Static_assert(sizeof(wakotehu_header_fields) == 112 && offsetof(wakotehu_header_fields, nonce) == 108, "as HeaderRow");
@@ -142,7 +143,7 @@ wakotehu_code wakotehu_transaction_parts(const uint8_t *bytes, size_t length, wa
 wakotehu_code wakotehu_write_transaction(int32_t version, uint32_t lock_time, const wakotehu_input *inputs,
                                          size_t input_count, const wakotehu_output *outputs, size_t output_count,
                                          const uint8_t *scripts, size_t scripts_length, uint8_t *bytes, size_t most,
-                                         uint64_t *length) {
+                                         size_t *length) {
     if (!rows_fit(inputs, input_count, sizeof *inputs) || !rows_fit(outputs, output_count, sizeof *outputs)
         || !readable(scripts, scripts_length) || !readable(bytes, most) || !length)
         return WAKOTEHU_NULL;
@@ -151,7 +152,7 @@ wakotehu_code wakotehu_write_transaction(int32_t version, uint32_t lock_time, co
                                        scripts_length, INTO(bytes, most), most, length);
 }
 
-wakotehu_code wakotehu_block_size(const uint8_t *bytes, size_t length, uint64_t *size) {
+wakotehu_code wakotehu_block_size(const uint8_t *bytes, size_t length, size_t *size) {
     if (!readable(bytes, length) || !size)
         return WAKOTEHU_NULL;
     return (wakotehu_code)ffi_block_size(AT(bytes, length), length, size);
@@ -164,7 +165,7 @@ wakotehu_code wakotehu_read_block(const uint8_t *bytes, size_t length, wakotehu_
 }
 
 wakotehu_code wakotehu_block_transactions(const uint8_t *bytes, size_t length, wakotehu_made *rows, size_t most,
-                                          uint64_t *count) {
+                                          size_t *count) {
     if (!readable(bytes, length) || !rows_fit(rows, most, sizeof *rows) || !count)
         return WAKOTEHU_NULL;
     return (wakotehu_code)ffi_transactions(AT(bytes, length), length, INTO(rows, most), most, count);
@@ -177,7 +178,7 @@ wakotehu_code wakotehu_block_place(const uint8_t *bytes, size_t length, uint32_t
     return (wakotehu_code)ffi_block_place(AT(bytes, length), length, height, median, now, heights, reason);
 }
 
-wakotehu_code wakotehu_record(const uint8_t *bytes, size_t length, uint64_t *block) {
+wakotehu_code wakotehu_record(const uint8_t *bytes, size_t length, size_t *block) {
     if (!readable(bytes, length) || !block)
         return WAKOTEHU_NULL;
     return (wakotehu_code)ffi_record(AT(bytes, length), length, block);
@@ -253,13 +254,13 @@ wakotehu_code wakotehu_p2sh_sigops(const uint8_t *input, size_t length, const ui
     return WAKOTEHU_OK;
 }
 
-wakotehu_code wakotehu_read_number(const uint8_t *bytes, size_t length, uint64_t most, int64_t *value) {
+wakotehu_code wakotehu_read_number(const uint8_t *bytes, size_t length, size_t most, int64_t *value) {
     if (!readable(bytes, length) || !value)
         return WAKOTEHU_NULL;
     return (wakotehu_code)ffi_number(AT(bytes, length), length, most, value);
 }
 
-wakotehu_code wakotehu_number_bytes(int64_t value, uint8_t *bytes, size_t length, uint64_t *count) {
+wakotehu_code wakotehu_number_bytes(int64_t value, uint8_t *bytes, size_t length, size_t *count) {
     if (!readable(bytes, length) || !count)
         return WAKOTEHU_NULL;
     return (wakotehu_code)ffi_number_bytes(value, INTO(bytes, length), length, count);
@@ -328,7 +329,7 @@ wakotehu_code wakotehu_verify(const uint8_t *bytes, size_t length, uint64_t inpu
 wakotehu_code wakotehu_verify_known(const uint8_t *bytes, size_t length, uint64_t input, const uint8_t *spent,
                                     size_t spent_length, const wakotehu_flags *flags, const char *valid,
                                     size_t valid_length, const char *invalid, size_t invalid_length, uint64_t *line,
-                                    uint32_t *accepted, char *asked, size_t room, uint64_t *needed) {
+                                    uint32_t *accepted, char *asked, size_t room, size_t *needed) {
     uint64_t unasked;
     if (!readable(bytes, length) || !readable(spent, spent_length) || !flags || !readable(valid, valid_length)
         || !readable(invalid, invalid_length) || !accepted || !readable(asked, room) || !needed)
@@ -344,7 +345,7 @@ wakotehu_code wakotehu_verify_known(const uint8_t *bytes, size_t length, uint64_
 wakotehu_code wakotehu_verify_script(const uint8_t *bytes, size_t length, uint64_t input, const uint8_t *spent,
                                      size_t spent_length, uint32_t flags, const char *valid, size_t valid_length,
                                      const char *invalid, size_t invalid_length, uint64_t *line, uint32_t *error,
-                                     char *asked, size_t room, uint64_t *needed) {
+                                     char *asked, size_t room, size_t *needed) {
     uint64_t unasked;
     if (!readable(bytes, length) || !readable(spent, spent_length) || !readable(valid, valid_length)
         || !readable(invalid, invalid_length) || !error || !readable(asked, room) || !needed)
@@ -358,11 +359,11 @@ wakotehu_code wakotehu_verify_script(const uint8_t *bytes, size_t length, uint64
 }
 
 wakotehu_code wakotehu_eval_script(const uint8_t *bytes, size_t length, uint64_t input, const uint8_t *script,
-                                   size_t script_length, uint32_t flags, const uint64_t *sizes, size_t count,
+                                   size_t script_length, uint32_t flags, const size_t *sizes, size_t count,
                                    const uint8_t *elements, size_t elements_length, const char *valid,
                                    size_t valid_length, const char *invalid, size_t invalid_length, uint64_t *line,
-                                   wakotehu_evaluated *evaluated, uint64_t *left_sizes, size_t most_sizes,
-                                   uint8_t *left, size_t most, char *asked, size_t room, uint64_t *needed) {
+                                   wakotehu_evaluated *evaluated, size_t *left_sizes, size_t most_sizes,
+                                   uint8_t *left, size_t most, char *asked, size_t room, size_t *needed) {
     uint64_t unasked;
     /* Who doesn't look at the code sees no run that succeeded. */
     if (evaluated)

@@ -34,7 +34,7 @@ struct question {
 };
 
 /* By what is known: lines of signatures that aren't valid, and of those that are. */
-static wakotehu_code ask(const struct question *q, const struct lines known[2], uint32_t *told, char *line, uint64_t *needed) {
+static wakotehu_code ask(const struct question *q, const struct lines known[2], uint32_t *told, char *line, size_t *needed) {
     return q->names ? wakotehu_verify_script(q->bytes, q->length, q->input, q->spent, q->spent_length, q->bits, known[1].text,
                                              known[1].length, known[0].text, known[0].length, NULL, told, line,
                                              WAKOTEHU_MOST_ASKED, needed)

@@ -666,7 +666,7 @@ static struct bytes bytes_of(const void *at, size_t length) { return (struct byt
 wakotehu_code wakotehu_tx_verify_input(wakotehu_tx tx, uint64_t input, const uint8_t *spent, size_t spent_length,
                                        uint32_t flags, const char *valid, size_t valid_length, const char *invalid,
                                        size_t invalid_length, uint64_t *line, uint32_t *error, char *asked, size_t room,
-                                       uint64_t *needed) {
+                                       size_t *needed) {
     struct question question = {input, bytes_of(spent, spent_length), bytes_of(valid, valid_length),
                                 bytes_of(invalid, invalid_length), flags};
     struct told told = {0, 0, 0};
@@ -690,10 +690,10 @@ wakotehu_code wakotehu_tx_verify_input(wakotehu_tx tx, uint64_t input, const uin
     return code;
 }
 
-wakotehu_code wakotehu_tx_verify(wakotehu_tx tx, const uint8_t *scripts, size_t length, const uint64_t *sizes, size_t count,
+wakotehu_code wakotehu_tx_verify(wakotehu_tx tx, const uint8_t *scripts, size_t length, const size_t *sizes, size_t count,
                                  uint32_t flags, const char *valid, size_t valid_length, const char *invalid,
                                  size_t invalid_length, uint64_t *line, uint64_t *input, uint32_t *error, char *asked,
-                                 size_t room, uint64_t *needed) {
+                                 size_t room, size_t *needed) {
     static const uint64_t no_sizes[1];
     struct all_asked question = {bytes_of(scripts, length), {count ? sizes : no_sizes, count},
                                  bytes_of(valid, valid_length), bytes_of(invalid, invalid_length), flags};
@@ -837,7 +837,7 @@ wakotehu_code wakotehu_disconnect(wakotehu_utxo utxo) {
 
 wakotehu_code wakotehu_tx_verify_input_known(wakotehu_tx tx, wakotehu_utxo known, uint64_t input, const uint8_t *spent,
                                              size_t spent_length, uint32_t flags, uint32_t *error, char *asked,
-                                             size_t room, uint64_t *needed) {
+                                             size_t room, size_t *needed) {
     struct known_question question = {input, bytes_of(spent, spent_length), flags};
     struct told told = {0, 0, 0};
     uint8_t none[1];

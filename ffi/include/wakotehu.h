@@ -15,7 +15,7 @@
  *   - All memory that the caller gives stays the caller's. The library hands out none: there is nothing to free but the
  *     handles, by wakotehu_close and wakotehu_tx_free.
  *   - An id is 32 bytes in the order in which they are hashed and sent; programs print them the other way round.
- *   - Moments are seconds since 1970, values are satoshis.
+ *   - Moments are seconds since 1970, values are satoshis. Lengths, rooms and what is needed are size_t; a struct's are uint64_t.
  *   - No call may be made by a signal handler, or by the child of a fork of a process with threads.
  */
 #ifndef WAKOTEHU_H
@@ -440,7 +440,7 @@ wakotehu_code wakotehu_transaction_parts(const uint8_t *bytes, size_t length, wa
 wakotehu_code wakotehu_write_transaction(int32_t version, uint32_t lock_time, const wakotehu_input *inputs,
                                          size_t input_count, const wakotehu_output *outputs, size_t output_count,
                                          const uint8_t *scripts, size_t scripts_length, uint8_t *bytes, size_t most,
-                                         uint64_t *length);
+                                         size_t *length);
 
 /* Whether the transaction at the front may stand in a block of a height; cutoff: the median time past of the block's
  * parent (Bitcoin Core's IsFinalTx). */
@@ -457,12 +457,12 @@ wakotehu_code wakotehu_read_block(const uint8_t *bytes, size_t length, wakotehu_
 wakotehu_code wakotehu_read_header(const uint8_t *bytes, size_t length, wakotehu_header_fields *header);
 
 /* How many bytes the block at the front takes; the others are left. */
-wakotehu_code wakotehu_block_size(const uint8_t *bytes, size_t length, uint64_t *size);
+wakotehu_code wakotehu_block_size(const uint8_t *bytes, size_t length, size_t *size);
 
 /* Its transactions, in order, at the front of `rows`, and how many they are, which is told where the room is too small
  * as well; WAKOTEHU_NONE where the bytes are no block. */
 wakotehu_code wakotehu_block_transactions(const uint8_t *bytes, size_t length, wakotehu_made *rows, size_t most,
-                                          uint64_t *count);
+                                          size_t *count);
 
 /* The number of the first rule that a block breaks by its place (18 to 23), 0 where there is none: at a height, with its
  * parent's median time past, at a moment. */
@@ -471,7 +471,7 @@ wakotehu_code wakotehu_block_place(const uint8_t *bytes, size_t length, uint32_t
 
 /* How many bytes the block has of the record at the front of a blk file's bytes, behind the record's first 8.
  * WAKOTEHU_NONE at the end: zero bytes alone. */
-wakotehu_code wakotehu_record(const uint8_t *bytes, size_t length, uint64_t *block);
+wakotehu_code wakotehu_record(const uint8_t *bytes, size_t length, size_t *block);
 
 /* The root of the Merkle tree of `count` ids, 32 bytes each, one after the other (Bitcoin Core's ComputeMerkleRoot, whose
  * `mutated` is `twin`: another list of ids has this root too). The root of no ids is 32 zero bytes. */
@@ -510,10 +510,10 @@ wakotehu_code wakotehu_p2sh_sigops(const uint8_t *input, size_t length, const ui
                                    uint64_t *count);
 
 /* The number that at most `most` bytes (and at most 8) spell (CScriptNum); WAKOTEHU_NONE where there are more. */
-wakotehu_code wakotehu_read_number(const uint8_t *bytes, size_t length, uint64_t most, int64_t *value);
+wakotehu_code wakotehu_read_number(const uint8_t *bytes, size_t length, size_t most, int64_t *value);
 
 /* A number's shortest spelling, of at most 9 bytes; `count` is written where the room is too small as well. */
-wakotehu_code wakotehu_number_bytes(int64_t value, uint8_t *bytes, size_t length, uint64_t *count);
+wakotehu_code wakotehu_number_bytes(int64_t value, uint8_t *bytes, size_t length, size_t *count);
 
 /* Whether a signature with its hash type is strictly encoded (BIP 66), or has no byte. */
 wakotehu_code wakotehu_strict_signature(const uint8_t *bytes, size_t length, uint32_t *yes);
@@ -546,7 +546,7 @@ wakotehu_code wakotehu_verify(const uint8_t *bytes, size_t length, uint64_t inpu
 wakotehu_code wakotehu_verify_known(const uint8_t *bytes, size_t length, uint64_t input, const uint8_t *spent,
                                     size_t spent_length, const wakotehu_flags *flags, const char *valid,
                                     size_t valid_length, const char *invalid, size_t invalid_length, uint64_t *line,
-                                    uint32_t *accepted, char *asked, size_t room, uint64_t *needed);
+                                    uint32_t *accepted, char *asked, size_t room, size_t *needed);
 
 /* An element that a script pushes has at most 520 bytes, so no line of a key, a signature and a digest is longer, unless a
  * stack that is given to wakotehu_eval_script has longer ones. */
@@ -595,7 +595,7 @@ const char *wakotehu_script_error_text(uint32_t error);
 wakotehu_code wakotehu_verify_script(const uint8_t *bytes, size_t length, uint64_t input, const uint8_t *spent,
                                      size_t spent_length, uint32_t flags, const char *valid, size_t valid_length,
                                      const char *invalid, size_t invalid_length, uint64_t *line, uint32_t *error,
-                                     char *asked, size_t room, uint64_t *needed);
+                                     char *asked, size_t room, size_t *needed);
 
 /* A transaction that is read once, so that each of its inputs can be asked for without reading it again. It is named by a
  * handle, a number; 0 is never one. It never changes, so up to 65,535 calls may ask it at once, from any threads. Only
@@ -615,23 +615,23 @@ wakotehu_code wakotehu_tx_read(const uint8_t *bytes, size_t length, size_t *used
 wakotehu_code wakotehu_tx_verify_input(wakotehu_tx tx, uint64_t input, const uint8_t *spent, size_t spent_length,
                                        uint32_t flags, const char *valid, size_t valid_length, const char *invalid,
                                        size_t invalid_length, uint64_t *line, uint32_t *error, char *asked, size_t room,
-                                       uint64_t *needed);
+                                       size_t *needed);
 
 /* The same of all inputs at once: the first that may not spend its script, and the number of its failure; `error` is
  * WAKOTEHU_SCRIPT_OK, and `input` 0, where each may. Eight digests are hashed at once, and a table is read once for all, so
  * this costs less than a call for each. scripts: those that the inputs spend, one after the other, sizes[n] bytes
  * each. WAKOTEHU_MISMATCH where there is no size for each input, or the bytes are more or fewer. Inputs behind one that is
  * refused, or that asks for a signature of which nothing is known, aren't looked at. */
-wakotehu_code wakotehu_tx_verify(wakotehu_tx tx, const uint8_t *scripts, size_t length, const uint64_t *sizes, size_t count,
+wakotehu_code wakotehu_tx_verify(wakotehu_tx tx, const uint8_t *scripts, size_t length, const size_t *sizes, size_t count,
                                  uint32_t flags, const char *valid, size_t valid_length, const char *invalid,
                                  size_t invalid_length, uint64_t *line, uint64_t *input, uint32_t *error, char *asked,
-                                 size_t room, uint64_t *needed);
+                                 size_t room, size_t *needed);
 
 /* wakotehu_tx_verify_input by the verdicts that a set of coins has learnt (wakotehu_utxo_learn), so that no table is read. The
  * set's coins aren't asked. The set is used by this call alone meanwhile. */
 wakotehu_code wakotehu_tx_verify_input_known(wakotehu_tx tx, wakotehu_utxo known, uint64_t input, const uint8_t *spent,
                                              size_t spent_length, uint32_t flags, uint32_t *error, char *asked,
-                                             size_t room, uint64_t *needed);
+                                             size_t room, size_t *needed);
 
 /* Gives a transaction's memory back. WAKOTEHU_BUSY while another call asks it: call again. */
 wakotehu_code wakotehu_tx_free(wakotehu_tx tx);
@@ -651,11 +651,11 @@ typedef struct {
  * wakotehu_verify_known. A line that is longer than `room` is answered WAKOTEHU_ASKED_TOO_SMALL: the script hasn't run to its
  * end, and `needed` says how long the line is. `evaluated` is written at each code. */
 wakotehu_code wakotehu_eval_script(const uint8_t *bytes, size_t length, uint64_t input, const uint8_t *script,
-                                   size_t script_length, uint32_t flags, const uint64_t *sizes, size_t count,
+                                   size_t script_length, uint32_t flags, const size_t *sizes, size_t count,
                                    const uint8_t *elements, size_t elements_length, const char *valid,
                                    size_t valid_length, const char *invalid, size_t invalid_length, uint64_t *line,
-                                   wakotehu_evaluated *evaluated, uint64_t *left_sizes, size_t most_sizes,
-                                   uint8_t *left, size_t most, char *asked, size_t room, uint64_t *needed);
+                                   wakotehu_evaluated *evaluated, size_t *left_sizes, size_t most_sizes,
+                                   uint8_t *left, size_t most, char *asked, size_t room, size_t *needed);
 
 /* A table of valid signatures is its text. Whether each line can be read, else WAKOTEHU_BAD_TABLE and the line's number,
  * from 1 (line may be null). */
