@@ -16,7 +16,11 @@ pub(crate) fn lacks_medians(coins: &CoinMap, context: &Context, block: &Block) -
     ensures { result ≡ lacks_medians (setting context.now) coins.now block.now }
 {
     context.params.at(context.height).csv
-        && block.txs.as_slice().iter().any(|tx| lacks_tx_start(coins, context, tx))
+        && block
+            .txs
+            .as_slice()
+            .iter()
+            .any(|tx| lacks_tx_start(coins, context, tx))
 }
 
 fn lacks_tx_start(coins: &CoinMap, context: &Context, tx: &Tx) -> bool
@@ -24,7 +28,11 @@ fn lacks_tx_start(coins: &CoinMap, context: &Context, tx: &Tx) -> bool
 {
     !tx.is_coinbase()
         && has_relative_locks(tx)
-        && tx.inputs.as_slice().iter().any(|input| lacks_start(coins, context, input))
+        && tx
+            .inputs
+            .as_slice()
+            .iter()
+            .any(|input| lacks_start(coins, context, input))
 }
 
 fn lacks_start(coins: &CoinMap, context: &Context, input: &TxIn) -> bool

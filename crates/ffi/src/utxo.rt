@@ -24,8 +24,8 @@ ghost use Rattle.ffi.specs.Medians.{lacks_medians};
 ghost use Rattle.ffi.specs.Utxo.{spent_last, tx_fault};
 ghost use Rattle.ffi.specs.UtxoState.{IsBlockFault, IsLearnt, IsNoAnswer, IsTakenBack, known_by, left_by, new_utxo, with_coin};
 
-use crate::medians::lacks_medians;
 use crate::answers::{CONTRADICTION, DONE, MEMORY, NONE, WANTS};
+use crate::medians::lacks_medians;
 use block::Block;
 use coins::{Base, Cache, Changes, Coin, CoinMap};
 use connect::{BlockWithIds, Context, Env, check_tx_inputs, connect_in_layer, disconnect_in_layer};

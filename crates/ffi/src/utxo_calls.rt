@@ -17,7 +17,9 @@ ghost use Rattle.ffi.specs.Refusals.{IsBlockTold, IsFaultTold, IsTold};
 ghost use Rattle.ffi.specs.UtxoState.{IsLearnt, IsTakenBack, known_by};
 ghost use Rattle.ffi.specs.Utxo.{AreInputsTold, Becomes, IsConnectTold, IsNextIn, IsPut, IsUtxoOpened, coin_of, fault_row, nearest, setting_of, spent_last};
 
-use crate::answers::{CLOSED, DONE, FULL, MEMORY, MISMATCH, NONE, Name, Place, ShownCoin, ShownSpent};
+use crate::answers::{
+    CLOSED, DONE, FULL, MEMORY, MISMATCH, NONE, Name, Place, ShownCoin, ShownSpent,
+};
 use crate::block_rules::refusal;
 use crate::known::tell_line;
 use crate::lists::{outpoint, tell_coin, tell_next};

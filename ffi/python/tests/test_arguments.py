@@ -234,7 +234,7 @@ CHAIN = [
     ("moved", {"before": ("id", GENESIS.id)}), ("copy", {}), ("close", {}),
 ]  # fmt: skip
 ROWS = [
-    row("consensus.transaction", data=DATA), row("consensus.transaction_parts", data=DATA),
+    row("consensus.transaction", data=DATA, oversize=("flag", False)), row("consensus.transaction_parts", data=DATA),
     row("consensus.write_transaction", parts=("parts", PARTS)),
     row("consensus.is_final", data=DATA, height=("number32", 1), cutoff=("number32", 1)),
     row("consensus.locks_met", data=DATA, starts=("starts", [(1, 1)]), height=("number32", 1), cutoff=("number32", 1)),
@@ -284,7 +284,7 @@ ROWS = [
     row("coinset.CoinSet.put", id=ID, index=("number32", 0), coin=("coin", COIN)),
     row("coinset.CoinSet.connect", block=BLOCK, height=("number32", 1), cutoff=("number32", 1), medians=("times", [1]),
         heights=("heights", (1, 1, 1, 1))),
-    row("coinset.CoinSet.check_tx_inputs", data=DATA, height=("number32", 1)),
+    row("coinset.CoinSet.check_tx_inputs", data=DATA, height=("number32", 1), oversize=("flag", False)),
     row("coinset.CoinSet.learn", triple=("triple", TRIPLE), valid=("flag", True)),
     row("coinset.CoinSet.verify_input", tx=("own", consensus.ParsedTransaction(RAW)), input=("number", 0),
         spent=("bytes", b""), flags=("rules", {"P2SH"})),
