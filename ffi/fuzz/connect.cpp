@@ -263,8 +263,9 @@ void connect_given(Pair &pair, const Bytes &bytes, const reading::Heights &heigh
     std::vector<uint32_t> medians;
     for (uint32_t at = 0; at < height; at++)
         medians.push_back(pair.reading.median_time_past(pair.reading.ancestor(parent, at)));
-    const wakotehu_setting setting = {medians.data(), medians.size(), {heights.bip34, heights.bip65, heights.bip66, heights.csv},
-                                      height, medians.back()};
+    /* The parent's may be left out. */
+    const wakotehu_setting setting = {medians.data(), medians.size() - height % 2,
+                                      {heights.bip34, heights.bip65, heights.bip66, heights.csv}, height, medians.back()};
     pair.story += "\nconnected once more: " + hex(bytes);
     const wakotehu_utxo set = given(pair, *before);
     for (const Tx &tx : block.txs)
