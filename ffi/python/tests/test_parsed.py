@@ -10,7 +10,7 @@ from typing import List, Union
 import wakotehu
 from wakotehu import consensus as c
 from wakotehu.encoding import push
-from wakotehu.errors import BadTable, Busy, Closed
+from wakotehu.errors import BadTable, Closed
 from wakotehu.signatures import Secp256k1
 
 
@@ -149,19 +149,22 @@ class ParsedTest(unittest.TestCase):
         other.close()
 
     def test_threads_share_one(self) -> None:
-        """Each call is answered rightly, or refused with Busy."""
-        data, wrong = spending([b"\x51", b"\x00"]), []
+        """Eight threads ask at once: none is refused with Busy, and each answer is right."""
+        data = spending([push(bytes([n])) for n in range(40)])
+        right = [push(bytes([n])) + b"\x87" for n in range(40)]
+        wrong: List[object] = []
 
         def ask(tx: c.ParsedTransaction) -> None:
-            for n in range(2000):
-                try:
-                    if tx.verify(n & 1, b"\x61" * 50) != (n & 1 == 0):
-                        wrong.append(n)
-                except Busy:
-                    pass
+            try:
+                for n in range(50):
+                    found = tx.verify_inputs(right), tx.verify_input(n % 40, right[n % 40]), tx.verify_input(0, right[1])
+                    if found != (None, None, c.ScriptError.EVAL_FALSE):
+                        wrong.append(found)
+            except Exception as error:
+                wrong.append(error)
 
         with c.ParsedTransaction(data) as tx:
-            threads = [threading.Thread(target=ask, args=(tx,)) for _ in range(4)]
+            threads = [threading.Thread(target=ask, args=(tx,)) for _ in range(8)]
             for thread in threads:
                 thread.start()
             for thread in threads:

@@ -32,7 +32,8 @@ _READ = {
 }  # fmt: skip
 #: What is wrong with a transaction that is kept.
 _HANDLES = {
-    2: (Closed, "the transaction was closed"), 7: (Busy, "another thread is inside a call on the transaction"),
+    2: (Closed, "the transaction, or the set of coins, was closed"),
+    7: (Busy, "another thread is inside a call on the transaction, or on the set of coins"),
     9: (TooMany, "too many transactions are kept"),
 }  # fmt: skip
 #: How many bytes the line of a signature that scripts ask for has at most.
@@ -780,8 +781,8 @@ class ParsedTransaction:
     have to be the transaction, else `Refused` says "extra"; with `whole=False` it is the one at their front. `size` is how
     many bytes it has.
 
-    Its memory is given back by `close`, at the end of a `with`, or by itself. One thread at a time may be inside a call:
-    another one is refused with `Busy`.
+    Its memory is given back by `close`, at the end of a `with`, or by itself. Any threads may ask it at once. `close` raises
+    `Busy` while another thread asks, and gives nothing back then.
 
         with ParsedTransaction(data) as tx:
             tx.verify_input(0, spent)

@@ -123,7 +123,7 @@ class OtherLoop(Error):
 
 
 class Busy(Error):
-    """Another thread is inside a call on the same chainstate or transaction."""
+    """Another thread is inside a call on the same chainstate or set of coins, or asks the transaction that is closed."""
 
 
 class TooMany(Error):
