@@ -6,8 +6,8 @@ use Rattle.durable.specs.declared.host.Asked.TheVariants.{Cut, Sync}
 use Rattle.durable.specs.Crash.{Event, File, Synced, Shortened, Leaves, cut, sync, file_after}
 use Rattle.durable.specs.Lines.{lines, AreWhole}
 use Rattle.durable.specs.KeptSteps.{Told, told, AreUpTo, Keeps, KeepsNow, KeepsBetween}
-use Rattle.durable.proofs.Whole.{lines_cut}
-use Rattle.durable.specs.Log.{opened}
+use Rattle.durable.proofs.Whole.{lines_cut, lines_rest}
+use Rattle.durable.specs.Log.{opened, on_disk, file_of, IsUncut}
 use Rattle.durable.proofs.Sound.{call}
 use Rattle.durable.proofs.FileCalls.{file_next, told_same, started, goes_on}
 
@@ -58,3 +58,11 @@ opened_now bytes left is = record {
   beginning = ([], append-nil (lines left) ∙ ap lines is);
   has = (omega (arith, ap (λ (l : List ℕ). length (lines l)) is), tt);
 }
+
+-- a host that has only opened its file
+module _ {H : Type 0} (calls : H → List Event) (host : H) (count end len : ℕ) (u : IsUncut calls host count end len) where
+  pub uncut_now : KeepsNow (lines (file_of calls host)) (calls host)
+  uncut_now = subst (KeepsNow (lines (file_of calls host))) (sym u.only_opened) (opened_now (file_of calls host))
+
+  pub cut_lines : (new : H) → file_after (calls new) ≡ Synced (take end (file_of calls host)) → lines (file_of calls new) ≡ lines (file_of calls host)
+  cut_lines new is = ap (λ (x : File). lines (on_disk x)) is ∙ lines_rest end (file_of calls host) u.whole u.rest

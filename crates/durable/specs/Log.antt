@@ -1,5 +1,5 @@
 -- What a log stands for.
-use Rattle.std.specs.Prelude.{◌≡◌, ℕ, ◌+◌, ◌<◌, true, false, List, [], ◌∷◌, ◌++◌, length, map}
+use Rattle.std.specs.Prelude.{◌≡◌, ℕ, ◌+◌, ◌<◌, ◌≤◌, true, false, List, [], ◌∷◌, ◌++◌, length, map, take, drop}
 use Rattle.durable.specs.declared.host.Asked.TheVariants.{Open}
 use Rattle.durable.specs.Crash.{Event, File, Synced, Appended, Shortened, Unsaid, file_after}
 use Rattle.durable.specs.Lines.{lines, AreWhole}
@@ -47,3 +47,16 @@ KeepsThrough calls old new = KeepsBetween (history calls old) (calls old.host) (
 -- what anyone was told
 abbrev pub heard : {H F : Type 0} → (H → List Event) → Log H F → List Told
 heard calls log = told (calls log.host)
+
+-- the file of a host, as it is on the disk at least
+abbrev pub file_of : {H : Type 0} → (H → List Event) → H → List ℕ
+file_of calls host = on_disk (file_after (calls host))
+
+-- A host has only opened a file of this length, of which these many bytes are these many whole lines.
+pub record IsUncut {H : Type 0} (calls : H → List Event) (host : H) (count end len : ℕ) : Type 0 where
+  pub only_opened : calls host ≡ opened (file_of calls host)
+  pub len_is : len ≡ length (file_of calls host)
+  pub count_is : count ≡ length (lines (file_of calls host))
+  pub within : end ≤ len
+  pub whole : AreWhole false (take end (file_of calls host))
+  pub rest : lines (drop end (file_of calls host)) ≡ []

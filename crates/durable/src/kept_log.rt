@@ -3,12 +3,14 @@
 ghost use Rattle.std.specs.Prelude.{◌≡◌, ◌≤◌, ◌++◌, ◌∷◌, [], length, take, drop, IfOk, IfErr};
 ghost use Rattle.std.proofs.Props.{props};
 ghost use Rattle.durable.specs.inside.Props.{whole-prop, up_to-prop};
-ghost use Rattle.durable.specs.Lines.{lines, IsEnd};
+ghost use Rattle.durable.specs.Lines.{lines};
 ghost use Rattle.durable.specs.KeptSteps.{KeepsBetween, HasFailed};
-ghost use Rattle.durable.specs.Log.{history, IsSound, KeepsThrough, opened, as_told, heard, FirstWaits};
+ghost use Rattle.durable.specs.Log.{file_of, history, IsSound, KeepsThrough, as_told, heard, FirstWaits};
 
 use crate::host::Host;
 use crate::log::{Answer, AppendFault, Log};
+use crate::lost::Lost;
+use crate::uncut_log::UncutLog;
 use std::alloc::Global;
 
 /// A log over a host. It takes no call after one of the host's has failed: then the host alone is left.
@@ -18,26 +20,24 @@ pub struct KeptLog<H: Host> {
     ghost sound: { IsSound H.calls log } by { Prim.hlevel (props, whole-prop, up_to-prop) },
 }
 
-/// Why a log is no more, and its host.
-#[derive(Drop)]
-pub struct Lost<F, H> {
-    pub fault: F,
-    pub host: H,
-}
-
 impl<H: Host> KeptLog<H> {
-    /// The log of a file that was opened with these bytes, and where its whole lines end. What follows them is cut off.
-    pub fn open(alloc: Global, host: H, bytes: &[u8]) -> Result<(KeptLog<H>, u64), H::Failure>
-    where
-        H: Drop,
-        requires { H.calls host ≡ opened bytes.now }
-        ensures history { IfOk result (λ r. history H.calls r.0.log ≡ lines bytes.now) }
-        ensures end { IfOk result (λ r. IsEnd bytes.now r.1) }
-        ensures any_moment { IfOk result (λ r.
-            KeepsBetween (lines bytes.now) (H.calls host) (H.calls r.0.log.host)) }
+    /// The log of a file. What follows its whole lines is cut off.
+    pub fn open(
+        alloc: Global,
+        uncut: UncutLog<H>,
+    ) -> Result<KeptLog<H>, Lost<H::Failure, H>>
+        ensures history { IfOk result (λ log.
+            history H.calls log.log ≡ lines (file_of H.calls uncut.host)) }
+        ensures any_moment { IfOk result (λ log. KeepsBetween
+            (lines (file_of H.calls uncut.host)) (H.calls uncut.host) (H.calls log.log.host)) }
+        ensures lost { IfErr result (λ lost. KeepsBetween
+            (lines (file_of H.calls uncut.host)) (H.calls uncut.host) (H.calls lost.host)) }
+        ensures failed { IfErr result (λ lost. HasFailed (H.calls lost.host)) }
     {
-        let (log, end) = Log::open(alloc, host, bytes)?;
-        Ok((KeptLog { log }, end))
+        match Log::open(alloc, uncut) {
+            Ok(log) => Ok(KeptLog { log }),
+            Err(lost) => Err(lost),
+        }
     }
 
     /// How many lines it has.

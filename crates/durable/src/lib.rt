@@ -6,9 +6,13 @@ mod kept_log;
 mod laws;
 mod lines;
 mod log;
+mod lost;
+mod uncut_log;
 
 pub use host::{Asked, Call, Host};
-pub use kept_log::{KeptLog, Lost};
+pub use kept_log::KeptLog;
 pub use laws::nothing_told_is_lost;
-pub use lines::{Found, first_line, recover, whole_lines};
+pub use lines::{Found, first_line, recover, spoiled_at, whole_lines};
 pub use log::{Answer, AppendFault, Log};
+pub use lost::Lost;
+pub use uncut_log::{Spoiled, UncutLog};

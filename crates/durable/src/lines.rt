@@ -1,10 +1,11 @@
 //! The lines of a file, read back.
 
-ghost use Rattle.std.specs.Prelude.{◌≡◌, ◌≤◌, ◌<◌, ◌+◌, ◌∷◌, [], ◌++◌, false, List, ℕ, length};
-ghost use Rattle.std.specs.Prelude.{take, drop, IfOk, OnErr, MatchOption};
+ghost use Rattle.std.specs.Prelude.{◌≡◌, ◌≢◌, ◌≤◌, ◌<◌, ◌+◌, ◌∷◌, [], ◌++◌, true, false, List, ℕ, length};
+ghost use Rattle.std.specs.Prelude.{take, drop, OnOk, OnErr, MatchOption};
 ghost use Rattle.durable.specs.Crash.{Synced, file_after};
-ghost use Rattle.durable.specs.Lines.{lines, AreWhole, IsEnd, IsLine};
+ghost use Rattle.durable.specs.Lines.{lines, AreWhole, IsLine, is_spoiled, first_zero, has_whole_line};
 ghost use Rattle.durable.specs.KeptSteps.{told, KeepsNow, KeepsBetween, HasFailed};
+ghost use Rattle.durable.specs.Log.{file_of, IsUncut};
 
 use crate::host::Host;
 
@@ -15,14 +16,12 @@ pub struct Found {
     pub end: u64,
 }
 
-/// Cuts off what follows the whole lines of a file that was opened with these bytes. It may crash too.
-pub fn recover<H: Host>(host: &mut H, bytes: &[u8]) -> Result<Found, H::Failure>
-    requires { file_after (H.calls host.old) ≡ Synced bytes.now }
+/// Cuts off what follows the whole lines of a file of this length, which was only opened. It may crash too.
+pub fn recover<H: Host>(host: &mut H, found: Found, len: u64) -> Result<(), H::Failure>
+    requires { IsUncut H.calls host.old found.count found.end len }
 
-    ensures count { IfOk result (λ found. found.count ≡ length (lines bytes.now)) }
-    ensures end { IfOk result (λ found. IsEnd bytes.now found.end) }
-    ensures file { IfOk result (λ found.
-        file_after (H.calls host.new) ≡ Synced (take found.end bytes.now)) }
+    ensures file { OnOk result (file_after (H.calls host.new)
+        ≡ Synced (take found.end (file_of H.calls host.old))) }
     ensures told { told (H.calls host.new) ≡ told (H.calls host.old) }
 
     // Whatever history the file keeps, a crash at any moment leaves what keeps it.
@@ -31,12 +30,58 @@ pub fn recover<H: Host>(host: &mut H, bytes: &[u8]) -> Result<Found, H::Failure>
 
     ensures failed { OnErr result (HasFailed (H.calls host.new)) }
 {
-    let found = whole_lines(bytes);
-    if found.end < bytes.len() as u64 {
+    if found.end < len {
         host.cut(found.end)?;
         host.sync()?;
     }
-    Ok(found)
+    Ok(())
+}
+
+/// Where the first zero byte is, if a whole line stands behind it.
+pub fn spoiled_at(bytes: &[u8]) -> Option<u64>
+    ensures { MatchOption result (is_spoiled bytes.now ≡ false)
+        (λ place. (is_spoiled bytes.now ≡ true) × (place ≡ first_zero bytes.now)) }
+{
+    for place in 0..bytes.len() {
+        if bytes[place] == 0 {
+            return if has_whole_line(&bytes[place + 1..]) {
+                Some(place as u64)
+            } else {
+                None
+            };
+        }
+    }
+    None
+}
+
+/// Whether a line is ended that began behind an end of line and has no zero byte.
+fn has_whole_line(bytes: &[u8]) -> bool
+    ensures { result ≡ has_whole_line false bytes.now }
+{
+    let mut is_begun = false;
+    for place in 0..bytes.len() {
+        let byte = bytes[place];
+        if byte == b'\n' && is_begun {
+            return true;
+        }
+        is_begun = is_begun_behind(is_begun, byte);
+    }
+    false
+}
+
+/// Whether a line without a zero byte is begun behind this byte, by whether one was before.
+fn is_begun_behind(is_begun: bool, byte: u8) -> bool
+    ensures zero { byte ≡ 0 → result ≡ false }
+    ensures end { byte ≡ 10 → result ≡ true }
+    ensures other { byte ≢ 0 → byte ≢ 10 → result ≡ is_begun }
+{
+    if byte == 0 {
+        return false;
+    }
+    if byte == b'\n' {
+        return true;
+    }
+    is_begun
 }
 
 /// The whole lines at the front of these bytes.

@@ -1,15 +1,17 @@
 //! A log of lines. They wait in memory until a commit brings all onto the disk, by one write and one sync.
 
 ghost use Rattle.std.specs.Prelude.{◌≡◌, ◌≤◌, ◌^◌, ◌-◌, ◌↔◌, ◌++◌, ◌∷◌, [], IsTrue, Decides};
-ghost use Rattle.std.specs.Prelude.{if◌then◌else◌, false, length, take, drop, IfOk, OnOk, OnErr, IsErrOf};
+ghost use Rattle.std.specs.Prelude.{if◌then◌else◌, false, length, take, drop, IfOk, IfErr, OnOk, OnErr, IsErrOf};
 ghost use Rattle.durable.specs.Crash.{Synced, file_after};
-ghost use Rattle.durable.specs.Lines.{lines, AreWhole, IsEnd, IsLine};
+ghost use Rattle.durable.specs.Lines.{lines, AreWhole, IsLine};
 ghost use Rattle.durable.specs.KeptSteps.{told, AreUpTo, KeepsBetween, HasFailed};
-ghost use Rattle.durable.specs.Log.{on_disk, history, IsSound, KeepsThrough, opened, as_told, heard, FirstWaits};
+ghost use Rattle.durable.specs.Log.{on_disk, file_of, history, IsSound, KeepsThrough, as_told, heard, FirstWaits};
 ghost use Rattle.durable.specs.declared.log.AppendFault.TheVariants as faults;
 
 use crate::host::Host;
-use crate::lines::{Found, recover};
+use crate::lines::recover;
+use crate::lost::Lost;
+use crate::uncut_log::UncutLog;
 use std::alloc::{AllocError, AllocFailed, Global};
 
 /// A log over a host: what is on the disk, and the lines that wait.
@@ -58,21 +60,23 @@ impl<T: Drop> From<AllocFailed<T>> for AppendFault {
 }
 
 impl<H: Host> Log<H> {
-    /// The log of a file that was opened with these bytes, and where its whole lines end. What follows them is cut off.
-    pub fn open(alloc: Global, host: H, bytes: &[u8]) -> Result<(Log<H>, u64), H::Failure>
-    where
-        H: Drop,
-        requires { H.calls host ≡ opened bytes.now }
-
-        ensures sound { IfOk result (λ r. IsSound H.calls r.0) }
-        ensures history { IfOk result (λ r. history H.calls r.0 ≡ lines bytes.now) }
-        ensures end { IfOk result (λ r. IsEnd bytes.now r.1) }
-        ensures any_moment { IfOk result (λ r.
-            KeepsBetween (lines bytes.now) (H.calls host) (H.calls r.0.host)) }
+    /// The log of a file. What follows its whole lines is cut off.
+    pub fn open(alloc: Global, uncut: UncutLog<H>) -> Result<Log<H>, Lost<H::Failure, H>>
+        ensures sound { IfOk result (λ log. IsSound H.calls log) }
+        ensures history { IfOk result (λ log.
+            history H.calls log ≡ lines (file_of H.calls uncut.host)) }
+        ensures any_moment { IfOk result (λ log. KeepsBetween
+            (lines (file_of H.calls uncut.host)) (H.calls uncut.host) (H.calls log.host)) }
+        ensures lost { IfErr result (λ lost. KeepsBetween
+            (lines (file_of H.calls uncut.host)) (H.calls uncut.host) (H.calls lost.host)) }
+        ensures failed { IfErr result (λ lost. HasFailed (H.calls lost.host)) }
     {
+        let UncutLog { host, found, len } = uncut;
         let mut host = host;
-        let Found { count, end } = recover(&mut host, bytes)?;
-        Ok((Log::new(alloc, host, count), end))
+        match recover(&mut host, found, len) {
+            Ok(()) => Ok(Log::new(alloc, host, found.count)),
+            Err(fault) => Err(Lost { fault, host }),
+        }
     }
 
     /// The log of a file with whole lines alone, all of it on the disk: so many.
