@@ -171,5 +171,12 @@ class Disks(KeepingTest):
         status, err = keeping.end()
         self.assertEqual((status, err.splitlines()[0]), (1, "regchain: cannot write history.log"))
         self.assertEqual(keeping.bad, [b'{"jsonrpc":"2.0","id":null,"error":{"code":-32004,"message":"not saved"}}'])
-        # There is room for what is read alone.
+        # Without room for what is to be cut nothing is, and with it all is there.
+        log = self.read_bytes("data/history.log")
+        if not log.endswith(b"\n"):
+            ended = self.serve(b"")
+            told = b"regchain: cannot write data/torn-1\ncannot write data/torn-1: No space left on device\n"
+            self.assertEqual((ended.returncode, ended.stderr), (1, told))
+        self.assertEqual((self.read_bytes("data/history.log"), self.exists("data/torn-1")), (log, False))
+        subprocess.run(["mount", "-o", "remount,size=1m", self.path("data")], check=True)
         self.assertGreater(self.expect_kept(clients), 100)

@@ -1,7 +1,8 @@
-"""A log whose last batch is cut anywhere, spoiled, or followed by zeros."""
+"""A log whose last batch is cut anywhere, has lost bytes, or is followed by zeros."""
 from __future__ import annotations
 
 import json
+import os
 import random
 import shutil
 
@@ -24,6 +25,14 @@ def batch(commands: list[tuple[str, dict[str, object]]]) -> bytes:
     )
 
 
+def has_line_behind(data: bytes) -> bool:
+    """Whether a whole line stands behind the first zero byte, or the next line but one ends whose number begins right there."""
+    front, _, behind = data.partition(b"\0")
+    lines = behind.split(b"\n")
+    next_line = f"{front.count(10) + 2} ".encode()
+    return any(b"\0" not in line for line in lines[1:-1]) or (behind.startswith(next_line) and len(lines) > 1)
+
+
 class TornEnds(KeepingTest):
     def make(self) -> tuple[bytes, int]:
         """A log, and where its last batch begins."""
@@ -35,17 +44,24 @@ class TornEnds(KeepingTest):
         return whole, synced
 
     def expect_recovered(self, data: bytes, synced: int, whole: bytes) -> None:
-        """The log is opened, and stands for its whole lines, which are the first of the history; what follows is cut off, and
-        told of."""
+        """The log is opened, and stands for its whole lines, which are the first of the history; what follows is cut off, kept
+        beside, and told of. Only where whole lines follow a zero byte that has to be asked for."""
         self.write_bytes(LOG, data)
-        ended = self.serve(b"")
+        cuts = ["--cut"] if has_line_behind(data) else []
+        if cuts:
+            self.assertEqual((self.serve(b"").returncode, self.read_bytes(LOG)), (1, data))
+        ended = self.serve(b"", *cuts)
         lines = whole_lines(data)
         left = whole[: sum(len(line) + 1 for line in whole.split(b"\n")[:lines])]
         self.assertEqual((ended.returncode, self.read_bytes(LOG)), (0, left), data[synced:])
         self.assertGreaterEqual(len(left), synced)
         cut = len(data) - len(left)
-        told = f"regchain: history.log: {cut} bytes of an unfinished line were cut off\n" if cut else ""
-        self.assertEqual(ended.stderr.decode(), told)
+        if not cut:
+            self.assertEqual((ended.stderr, self.exists("data/torn-1")), (b"", False))
+            return
+        self.assertRegex(ended.stderr.decode(), rf"\Aregchain: history.log: {cut} bytes .* were cut off: .*, kept in data/torn-1\n\Z")
+        self.assertEqual(self.read_bytes("data/torn-1"), data[len(left) :])
+        os.remove(self.path("data/torn-1"))
 
     def places(self, begin: int, end: int, few: int) -> list[int]:
         every = list(range(begin, end + 1))

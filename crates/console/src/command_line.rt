@@ -189,7 +189,7 @@ const SHOW: [Opt; 2] = [
     },
 ];
 
-const SERVE: [Opt; 12] = [
+const SERVE: [Opt; 13] = [
     Opt {
         name: "seats",
         help: "How many callers the node has places for, 1 to 16 [default: 4]",
@@ -215,6 +215,11 @@ const SERVE: [Opt; 12] = [
     Opt {
         name: "no-sync",
         help: "With --datadir: answers without waiting for the disk; a crash of the machine may lose what was answered",
+        ..FLAG
+    },
+    Opt {
+        name: "cut",
+        help: "With --datadir: cuts a log off at a zero byte, though whole lines follow; they are kept beside",
         ..FLAG
     },
     Opt {

@@ -1,5 +1,6 @@
 //! Why a run ends without its whole output.
 
+use crate::datadir::LOG;
 use arrayvec::ArrayString;
 use durable::AppendFault;
 use journal::JournalFault;
@@ -45,6 +46,10 @@ pub enum RunFault<'w> {
     CannotSave(&'w str, &'static str, Error),
     /// In this folder the file of this name can't be read.
     CannotOpen(&'w str, &'static str, Error),
+    /// In this folder what is to be cut off the log can't be kept, in the file of this number.
+    CannotKeep(&'w str, u64, Error),
+    /// The log of this folder has whole lines behind the zero byte at this place.
+    Spoiled(&'w str, u64),
     /// The scenario defines no block and no transaction of this name.
     NoName(&'w str),
     /// No block has this height; the highest has the second.
@@ -155,6 +160,10 @@ impl fmt::Display for FaultLine<'_, '_> {
             RunFault::BlkRecords => f.write_str("blk records"),
             RunFault::CannotRead(file, _) => write!(f, "cannot read {file}"),
             RunFault::CannotOpen(folder, file, _) => write!(f, "cannot read {folder}/{file}"),
+            RunFault::CannotKeep(folder, number, _) => {
+                write!(f, "cannot write {folder}/torn-{number}")
+            }
+            RunFault::Spoiled(folder, _) => write!(f, "spoiled {folder}/{LOG}"),
             RunFault::NoName(name) => write!(f, "no name {name}"),
             RunFault::NoHeight(height, _) => write!(f, "no height {height}"),
             RunFault::Differs(difference) => difference.fmt(f),
@@ -198,6 +207,10 @@ impl fmt::Display for FaultReason<'_, '_> {
             RunFault::CannotWrite(_, error) => write_error(error, f),
             RunFault::CannotSave(_, _, error) => write_error(error, f),
             RunFault::CannotOpen(_, _, error) => write_error(error, f),
+            RunFault::CannotKeep(_, _, error) => write_error(error, f),
+            RunFault::Spoiled(_, place) => {
+                write!(f, "whole lines follow a zero byte at {place}")
+            }
             RunFault::Owed => f.write_str("there was no memory to show a step that was taken"),
             _ => Ok(()),
         }

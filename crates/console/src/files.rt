@@ -19,6 +19,25 @@ where
     }
 }
 
+/// Refuses what is there and is neither a regular file nor a folder: to open a pipe or a device may wait for ever.
+pub fn check_regular<R: Files>(rt: &R, path: &str) -> io::Result<()> {
+    match fs::metadata(rt, path) {
+        Ok(found) if !found.is_file() && !found.is_dir() => {
+            Err(Error::new(ErrorKind::InvalidInput, "not a regular file"))
+        }
+        _ => Ok(()),
+    }
+}
+
+/// The bytes of a regular file.
+pub fn read_regular<R>(rt: &R, path: &str) -> io::Result<Vec<u8>>
+where
+    R: Files + AllocGlobal,
+{
+    check_regular(rt, path)?;
+    fs::read(rt, path)
+}
+
 /// The bytes of a file, if one is named.
 pub fn read_if_named<'w, R>(rt: &R, file: Option<&'w str>) -> Result<Option<Vec<u8>>, RunFault<'w>>
 where

@@ -133,6 +133,8 @@ pub struct ServeOptions<'w> {
     pub datadir: Option<&'w str>,
     /// Whether an answer goes out before its steps are on the disk.
     pub is_unsynced: bool,
+    /// Whether whole lines behind a zero byte of the log are cut off too.
+    pub is_cut: bool,
     /// Whether seats tell which signatures are valid, as calls want them, in place of a table.
     pub is_by_need: bool,
     /// Whether a request is refused for whose seat as many wait as may.
@@ -339,6 +341,7 @@ fn read_serve<'w>(serve: &ArgMatches<'w>) -> CommandOptions<'w> {
         save: serve.get_str("save"),
         datadir: serve.get_str("datadir"),
         is_unsynced: serve.get_flag("no-sync"),
+        is_cut: serve.get_flag("cut"),
         is_by_need: serve.get_flag("by-need"),
         is_busy: serve.get_flag("busy"),
         history_memory: serve.get_one("history-memory"),

@@ -1,13 +1,15 @@
 //! What was saved of a run, read to be replayed.
 
 use crate::datadir::{
-    JudgedSignature, LOG, PlaySetting, Unpacked, read_bytes, read_lines, read_setting, table_of,
+    JudgedSignature, KeptSteps, LOG, PlaySetting, Unpacked, check_lines, read_bytes, read_lines,
+    read_setting, table_of,
 };
 use crate::fault::RunFault;
 use crate::files::{read_file, read_table, read_table_file};
 use crate::options::Saved;
 use crate::saves::{SavedFiles, read_saved};
 use block::{ReadFault, SliceSource};
+use durable::{Found, whole_lines};
 use hash::Id;
 use journal::{Asked, Records, Step, read_heights, read_journal, read_records};
 use model::{Bytes, Command, Reply, SharedTriple};
@@ -48,6 +50,9 @@ pub fn read_replay<'w, R>(rt: &R, saved: &Saved<'w>, limit: usize) -> Result<Rep
 where
     R: Files<File = File> + AllocGlobal,
 {
+    if let Saved::Datadir(folder) = saved {
+        return read_kept(rt, folder, limit);
+    }
     let SavedRun {
         params,
         journal,
@@ -70,6 +75,70 @@ where
         commands: steps.commands,
         recorded: steps.recorded,
     })
+}
+
+/// What so many lines of a node's log ask, at most. The node may go on.
+fn read_kept<'w, R>(rt: &R, folder: &'w str, limit: usize) -> Result<Replay, RunFault<'w>>
+where
+    R: Files<File = File> + AllocGlobal,
+{
+    let alloc = rt.alloc();
+    let PlaySetting { params, table } = read_setting(rt, folder)?;
+    let found = read_found(rt, folder)?;
+    let mut steps = KeptSteps::open(rt, folder, found)?;
+    let mut commands = Vec::new(alloc);
+    let mut recorded = Vec::new(alloc);
+    for _ in 0..u64::MAX {
+        if commands.len() >= limit {
+            break;
+        }
+        let Some(mut batch) = steps.next()? else {
+            break;
+        };
+        commands.append(&mut batch.commands)?;
+        recorded.append(&mut batch.replies)?;
+    }
+    commands.truncate(limit);
+    recorded.truncate(limit);
+    let table = match table {
+        Some(table) => table,
+        None => table_learnt(alloc, commands.as_slice())?,
+    };
+    check_verdicts(commands.as_slice(), &table)?;
+    Ok(Replay {
+        params,
+        table,
+        blocks: blocks_of(commands.as_slice()),
+        commands,
+        recorded,
+    })
+}
+
+/// The whole lines of a log, which isn't spoiled.
+fn read_found<'w, R>(rt: &R, folder: &'w str) -> Result<Found, RunFault<'w>>
+where
+    R: Files<File = File> + AllocGlobal,
+{
+    let log = read_bytes(rt, folder, LOG)?;
+    check_lines(rt.alloc(), folder, log.as_slice())?;
+    Ok(whole_lines(log.as_slice()))
+}
+
+/// The signatures that these commands say are valid.
+fn table_learnt(alloc: Global, commands: &[Command]) -> Result<Table, RunFault<'static>> {
+    let mut lines = String::new(alloc);
+    for command in commands {
+        if let Command::Learn(triple, true) = command {
+            writeln!(lines, "{}", triple.triple())?;
+        }
+    }
+    Ok(Table::from_lines(alloc, lines.as_bytes())?)
+}
+
+/// How many of these commands are submissions.
+fn blocks_of(commands: &[Command]) -> usize {
+    let is_submission = |command: &&Command| matches!(command, Command::Submit(..));
+    commands.iter().filter(is_submission).count()
 }
 
 /// Refuses a verdict that a signature isn't valid which another says is.
@@ -181,6 +250,7 @@ where
 {
     let PlaySetting { params, table } = read_setting(rt, folder)?;
     let log = read_bytes(rt, folder, LOG)?;
+    check_lines(rt.alloc(), folder, log.as_slice())?;
     let Unpacked {
         journal,
         blk,
@@ -289,7 +359,7 @@ fn command_of(
 }
 
 /// Refuses a record that isn't the block of a step.
-fn check_record(
+pub fn check_record(
     alloc: Global,
     step: &Step<'_, Id>,
     record: &[u8],

@@ -7,6 +7,12 @@ use model::{Command, Entry};
 use scenario::{Definitions, Label};
 use std::alloc::{AllocError, Global};
 
+/// The names of the seats in a journal.
+pub const SEATS: [&str; 16] = [
+    "seat0", "seat1", "seat2", "seat3", "seat4", "seat5", "seat6", "seat7", "seat8", "seat9",
+    "seat10", "seat11", "seat12", "seat13", "seat14", "seat15",
+];
+
 /// The names of a run's clients.
 #[derive(Drop)]
 pub struct Clients<'t> {

@@ -5,6 +5,7 @@
 //! where there is none, another file that still has its name with `.new` is the one that counts.
 
 use crate::fault::RunFault;
+use crate::files::read_regular;
 use crate::report::Report;
 use journal::{RecordFault, blk_file};
 use rules::Params;
@@ -344,8 +345,14 @@ where
     if let Err(error) = check_is_folder(rt, folder) {
         return Err(RunFault::CannotOpen(folder, JOURNAL, error));
     }
-    // Where there are no locks it is read without one.
-    let _lock = lock_to_read(rt, folder);
+    // Where there are no locks it is read without one. A folder without a saved run may be a node's, which keeps it locked.
+    let is_saved = stands(rt, places.journal.path.as_str())
+        || stands(rt, places.journal.new.as_str());
+    let _lock = if is_saved {
+        lock_to_read(rt, folder).ok()
+    } else {
+        None
+    };
     read_places(rt, folder, &places)
 }
 
@@ -384,7 +391,7 @@ where
 {
     let is_new = counts_new && is_file(rt, place.new.as_str());
     let path = if is_new { &place.new } else { &place.path };
-    match fs::read(rt, path.as_str()) {
+    match read_regular(rt, path.as_str()) {
         Ok(bytes) => Ok(bytes),
         Err(error) if error.kind() == ErrorKind::OutOfMemory => Err(RunFault::Memory),
         Err(error) => Err(RunFault::CannotOpen(folder, place.name, error)),

@@ -20,6 +20,6 @@ pub use difference::{Refuted, Replayer, first_refuted};
 pub use fault::JournalFault;
 pub use heights::read_heights;
 pub use records::{RecordFault, blk_file, put_record};
-pub use saved_journal::read_journal;
+pub use saved_journal::{read_journal, read_line};
 pub use state_replay::{ReplayedState, replayed_state};
 pub use step::{Asked, Step, block_of};

@@ -33,7 +33,8 @@ pub fn read_journal<'t>(alloc: Global, text: &'t [u8]) -> Result<Vec<Step<'t, Id
     Ok(steps)
 }
 
-fn read_line<'t>(
+/// The step of this line, whose number is to be this one. None where no step is printed so.
+pub fn read_line<'t>(
     alloc: Global,
     number: usize,
     line: &'t [u8],

@@ -3,9 +3,10 @@
 use crate::by_need::{deny_wants, learn_lines};
 use crate::node_faults::unanswered;
 use crate::waste::taken_by;
-use crate::words::SEATS;
+use crate::words::{Facts, SEATS};
 use block::SliceSource;
 use console::ahead::{CommandsAhead, NextBlock, RecordsAhead};
+use console::datadir::KeptSteps;
 use console::fault::RunFault;
 use console::progress::Progress;
 use console::replay::BLK_MOMENT;
@@ -22,18 +23,29 @@ use std::time::Clock;
 /// What is played before the first request.
 #[derive(Drop)]
 pub struct Earlier<'t> {
+    /// Those of an earlier run.
     pub commands: Vec<Command>,
     /// Their lines in the journal.
     pub steps: Vec<Step<'t, Id>>,
     /// The lines of the signatures that are told to be valid before, and not to be.
     pub valid: String,
     pub invalid: Vec<u8>,
-    /// Whether they are a kept history: each is a step of it, and it has each verdict that they want.
-    pub is_kept: bool,
+    /// Then a kept history, if there is one: each is a step of it, and it has each verdict that they want.
+    pub kept: Option<KeptSteps>,
     /// Then the blocks of this file are submitted.
     pub blk: Option<Vec<u8>>,
     /// At most so many threads decode and hash blocks ahead.
     pub workers: usize,
+}
+
+/// Commands that were steps, and what was replied to each.
+#[derive(Clone, Copy)]
+struct PastSteps<'b> {
+    commands: &'b [Command],
+    replies: &'b [Option<Reply>],
+    /// How many steps are before them, where each is a step of a kept history.
+    kept_before: Option<usize>,
+    workers: usize,
 }
 
 /// Plays it at a seat. The first reply that isn't the recorded one is a fault, and so is a blk file's end that is none. A
@@ -42,8 +54,8 @@ pub fn play_earlier<J: Naming, R, E>(
     rt: &R,
     node: &Node<'_, J>,
     seat: &mut Seat<'_, J>,
-    earlier: &Earlier<'_>,
-    clients: &mut Clients<'_>,
+    earlier: &mut Earlier<'_>,
+    facts: &mut Facts<'_>,
     progress: &mut Progress<'_, '_, R, E>,
 ) -> Result<(), RunFault<'static>>
 where
@@ -52,50 +64,112 @@ where
 {
     learn_lines(rt, node, earlier.valid.as_bytes(), true, seat).map_err(unanswered)?;
     learn_lines(rt, node, earlier.invalid.as_slice(), false, seat).map_err(unanswered)?;
-    clients.put_in(0, seat.note().len(), SEATS[0])?;
-    let mut ahead = CommandsAhead::new(rt.alloc(), earlier.commands.as_slice(), earlier.workers);
-    for (command, step) in earlier.commands.iter().zip(earlier.steps.iter()) {
-        if let Some(submission) = ahead.next(rt) {
-            seat.hand_in(submission);
-        }
-        let before = seat.note().len();
-        let reply = match asked(rt, node, seat, command) {
-            Err(node::Fault::Unknown) if earlier.is_kept => Err(RunFault::NoStep(step.number)),
-            Err(node::Fault::Unknown) => replied(rt, node, seat, command),
-            answer => answer.map_err(unanswered),
-        }?;
-        let denied = seat.note().len().saturating_sub(before.saturating_add(1));
-        clients.put_in(before, denied, SEATS[0])?;
-        progress.count(matches!(command, Command::Submit(..)));
-        match step.reply {
-            Some(recorded) if recorded != reply => {
-                return Err(RunFault::OtherReply(step.number, reply));
-            }
-            _ if earlier.is_kept && seat.note().len() != step.number as u64 => {
-                return Err(RunFault::NoStep(step.number));
-            }
-            _ => {}
-        }
+    facts.clients.put_in(0, seat.note().len(), SEATS[0])?;
+    let mut replies = Vec::new(rt.alloc());
+    for step in earlier.steps.iter() {
+        replies.push(step.reply)?;
+    }
+    let saved = PastSteps {
+        commands: earlier.commands.as_slice(),
+        replies: replies.as_slice(),
+        kept_before: None,
+        workers: earlier.workers,
+    };
+    play_steps(rt, node, seat, saved, facts, progress)?;
+    if let Some(kept) = &mut earlier.kept {
+        play_kept(rt, node, seat, kept, facts, progress)?;
     }
     match &earlier.blk {
         Some(file) => {
             let records = Records::new(rt.alloc(), SliceSource::new(file.as_slice()));
             let mut records = RecordsAhead::new(rt.alloc(), records, earlier.workers);
-            submit_file(rt, node, seat, &mut records, clients)
+            submit_file(rt, node, seat, &mut records, &mut facts.clients)
         }
         None => Ok(()),
     }
 }
 
-/// How many bytes of it submissions take that aren't kept.
-pub fn wasted(earlier: &Earlier<'_>) -> u64 {
-    let mut bytes = 0_u64;
-    for (command, step) in earlier.commands.iter().zip(earlier.steps.iter()) {
-        if let (Command::Submit(block, _), Some(Reply::Submit(reply))) = (command, step.reply) {
-            bytes = bytes.saturating_add(taken_by(reply, block.len()));
+/// Plays a kept history, a batch at a time.
+fn play_kept<J: Naming, R, E>(
+    rt: &R,
+    node: &Node<'_, J>,
+    seat: &mut Seat<'_, J>,
+    kept: &mut KeptSteps,
+    facts: &mut Facts<'_>,
+    progress: &mut Progress<'_, '_, R, E>,
+) -> Result<(), RunFault<'static>>
+where
+    R: AllocGlobal + Clock + Threads + Wait + Sync,
+    E: Write,
+{
+    for _ in 0..u64::MAX {
+        let Some(batch) = kept.next()? else {
+            return Ok(());
+        };
+        for client in batch.clients.iter() {
+            facts.clients.earlier.push(*client)?;
+        }
+        let steps = PastSteps {
+            commands: batch.commands.as_slice(),
+            replies: batch.replies.as_slice(),
+            kept_before: Some(batch.before),
+            workers: facts.workers,
+        };
+        play_steps(rt, node, seat, steps, facts, progress)?;
+    }
+    Err(RunFault::Closed)
+}
+
+/// Plays steps. The first reply that isn't the recorded one is a fault.
+fn play_steps<J: Naming, R, E>(
+    rt: &R,
+    node: &Node<'_, J>,
+    seat: &mut Seat<'_, J>,
+    steps: PastSteps<'_>,
+    facts: &mut Facts<'_>,
+    progress: &mut Progress<'_, '_, R, E>,
+) -> Result<(), RunFault<'static>>
+where
+    R: AllocGlobal + Clock + Threads + Wait + Sync,
+    E: Write,
+{
+    let mut number = steps.kept_before.unwrap_or(0);
+    let mut ahead = CommandsAhead::new(rt.alloc(), steps.commands, steps.workers);
+    for (command, recorded) in steps.commands.iter().zip(steps.replies.iter()) {
+        number = number.saturating_add(1);
+        if let Some(submission) = ahead.next(rt) {
+            seat.hand_in(submission);
+        }
+        let before = seat.note().len();
+        let is_kept = steps.kept_before.is_some();
+        let reply = match asked(rt, node, seat, command) {
+            Err(node::Fault::Unknown) if is_kept => Err(RunFault::NoStep(number)),
+            Err(node::Fault::Unknown) => replied(rt, node, seat, command),
+            answer => answer.map_err(unanswered),
+        }?;
+        let denied = seat.note().len().saturating_sub(before.saturating_add(1));
+        facts.clients.put_in(before, denied, SEATS[0])?;
+        facts.wasted = facts.wasted.saturating_add(wasted(command, reply));
+        progress.count(matches!(command, Command::Submit(..)));
+        match *recorded {
+            Some(recorded) if recorded != reply => {
+                return Err(RunFault::OtherReply(number, reply));
+            }
+            _ if is_kept && seat.note().len() != number as u64 => {
+                return Err(RunFault::NoStep(number));
+            }
+            _ => {}
         }
     }
-    bytes
+    Ok(())
+}
+
+/// How many bytes of the history a submission takes that isn't kept.
+fn wasted(command: &Command, reply: Reply) -> u64 {
+    match (command, reply) {
+        (Command::Submit(block, _), Reply::Submit(reply)) => taken_by(reply, block.len()),
+        _ => 0,
+    }
 }
 
 /// The reply to a command that wants signatures, and is made again as long as it does.

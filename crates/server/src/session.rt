@@ -1,18 +1,17 @@
 //! A node that answers requests, a JSON object a line, until its input ends.
 
 ghost use Rattle.std.specs.Prelude.{◌≡◌};
-ghost use Rattle.durable.specs.Log.{opened};
 
 use crate::delivery::tell_all;
-use crate::earlier::{Earlier, play_earlier, wasted};
+use crate::earlier::{Earlier, play_earlier};
 use crate::input_lines::{READ_AHEAD, WhenIdle};
 use crate::node_faults::unopened;
 use crate::saves::{answer_saved, save_served};
 use crate::service::{serve_requests, taken};
 use crate::words::{Facts, SEATS};
 use console::datadir::{
-    Datadir, FileHost, HostFault, JudgedSignature, LOG, PlaySetting, Unpacked, lock_for_node,
-    open_datadir, read_lines,
+    Datadir, FileHost, FolderLock, HostFault, JudgedSignature, KeptSteps, LOG, PlaySetting, Torn,
+    check_lines, keep_torn, lock_to_save, open_datadir,
 };
 use console::fault::RunFault;
 use console::files::{read_if_named, read_table_file};
@@ -21,9 +20,9 @@ use console::progress::Progress;
 use console::replay::{SavedRun, commands, read_inputs};
 use console::report::Clients;
 use console::saves::{check_folder, read_invalid};
-use durable::{Host, KeptLog, Lost, whole_lines};
+use durable::{Host, KeptLog, Lost, UncutLog};
 use journal::{read_heights, read_journal, read_records};
-use node::{EndFault, Entry, Gate, Naming, Node, Opening, Seat};
+use node::{EndFault, Entry, Gate, Naming, Node, Opening, Params, Seat};
 use serving::{Answer, Refusal, RequestId, Stamped, answer_line, refusal_line};
 use signatures::Table;
 use std::alloc::{AllocError, Global};
@@ -51,38 +50,53 @@ where
     O: Write,
     E: Write + IsTerminal,
 {
-    let mut disk = open_disk(rt, options)?;
-    tell_opening(options, disk.bytes.as_slice(), err);
-    let log = disk.log.take();
-    let host = FileHost::open(rt.alloc(), log, &disk.bytes, !options.is_unsynced, out);
-    serve_over(rt, options, gate, host, disk, Streams { input, err })
+    let Disk { begin, log, bytes } = open_disk(rt, options)?;
+    tell_unsynced(options, err);
+    let host = FileHost::open(rt.alloc(), log, &bytes, !options.is_unsynced, out);
+    let folder = options.datadir.unwrap_or("");
+    let uncut = UncutLog::read(host, &bytes, options.is_cut);
+    drop(bytes);
+    match uncut {
+        Ok(uncut) => {
+            let ends = Ends {
+                input,
+                err,
+                folder,
+                uncut,
+            };
+            serve_over(rt, options, gate, begin, ends)
+        }
+        Err(Lost { fault, host: _host }) => Err(RunFault::Spoiled(folder, fault.place)),
+    }
 }
 
-/// What a served node reads, and where it says what the one who started it has to know.
+/// What a served node reads, where it says what the one who started it has to know, and its log, of which nothing is cut
+/// before its lines have been played.
 #[derive(Drop)]
-struct Streams<'s, I, E> {
+struct Ends<'s, 'f, I, E, H: Host> {
     input: &'s mut I,
     err: &'s mut E,
+    /// The log's folder.
+    folder: &'f str,
+    uncut: UncutLog<H>,
 }
 
-/// Serves over a log that was opened.
+/// Serves over a log that was read.
 fn serve_over<'w, R, I, E, H>(
     rt: &R,
     options: &ServeOptions<'w>,
     gate: &(dyn Gate + Sync),
-    host: H,
-    disk: Disk,
-    streams: Streams<'_, I, E>,
+    begin: Beginning,
+    ends: Ends<'_, 'w, I, E, H>,
 ) -> Result<(), RunFault<'w>>
 where
     R: Files<File = File> + AllocGlobal + Clock + Threads + Wait + Sync,
     I: Read + Send,
     E: Write + IsTerminal,
     H: Host<Failure = HostFault> + Drop,
-    requires { H.calls host ≡ opened disk.bytes.items }
 {
     let alloc = rt.alloc();
-    let Disk {
+    let Beginning {
         inputs: SavedRun {
             params,
             journal,
@@ -90,44 +104,51 @@ where
             verdicts,
             table,
         },
-        bytes,
         lock: _lock,
-        ..
-    } = disk;
-    let (log, _) = KeptLog::open(alloc, host, &bytes)?;
-    let log = Mutex::new(Some(log));
+    } = begin;
     let known = read_known(rt, options, &table)?;
+    let found = ends.uncut.found;
     let (journal, blk) = (journal.as_slice(), blk.as_slice());
-    let earlier = read_earlier(rt, options, journal, blk, verdicts, known)?;
+    let mut earlier = read_earlier(rt, options, journal, blk, verdicts, known)?;
+    earlier.kept = match options.datadir {
+        Some(folder) => Some(KeptSteps::open(rt, folder, found)?),
+        None => None,
+    };
     let table = Arc::new(alloc, table)?;
     let facts = Facts {
         params,
         seats: options.seats,
         workers: options.workers,
-        loaded: earlier.steps.len(),
+        loaded: earlier.steps.len().saturating_add(found.count as usize),
         is_kept: options.datadir.is_some(),
         is_unsynced: options.is_unsynced,
         is_by_need: options.is_by_need,
         is_busy: options.is_busy,
         history_memory: options.history_memory,
-        wasted: wasted(&earlier),
+        wasted: 0,
         save: options.save,
         table: Arc::clone(&table)?,
         clients: clients(alloc, &earlier)?,
     };
-    serve_and_save(rt, options, gate, &earlier, facts, &table, streams, &log)
+    serve_and_save(rt, options, gate, &mut earlier, facts, &table, ends)
 }
 
-/// What a node begins with.
+/// What a node begins with, where its history isn't kept, and its setting.
+#[derive(Drop)]
+struct Beginning {
+    inputs: SavedRun,
+    /// What keeps other nodes from the folder.
+    lock: Option<FolderLock>,
+}
+
+/// What is on the disk as a node begins.
 #[derive(Drop)]
 struct Disk {
-    inputs: SavedRun,
+    begin: Beginning,
     /// Where the history is kept.
     log: Option<File>,
     /// What the log holds.
     bytes: Vec<u8>,
-    /// What keeps other nodes from the folder.
-    lock: Option<File>,
 }
 
 /// Reads what a node begins with, and locks the folder that is its own.
@@ -136,71 +157,99 @@ where
     R: Files<File = File> + AllocGlobal,
 {
     if let Some(folder) = options.datadir {
-        return open_kept(rt, open_datadir(rt, folder, options)?);
+        return open_kept(rt, folder, options);
     }
     let lock = match options.save {
-        Some(folder) => Some(lock_to_save(rt, folder)?),
+        Some(folder) => Some(lock_saved(rt, folder)?),
         None => None,
     };
     Ok(Disk {
-        inputs: inputs(rt, options)?,
+        begin: Beginning {
+            inputs: inputs(rt, options)?,
+            lock,
+        },
         log: None,
         bytes: Vec::new(rt.alloc()),
-        lock,
     })
 }
 
-/// What a node begins with whose history is kept.
-fn open_kept<'w, R: AllocGlobal>(rt: &R, datadir: Datadir) -> Result<Disk, RunFault<'w>> {
+/// What is on the disk of a node whose history is kept.
+fn open_kept<'w, R>(
+    rt: &R,
+    folder: &'w str,
+    options: &ServeOptions<'w>,
+) -> Result<Disk, RunFault<'w>>
+where
+    R: Files<File = File> + AllocGlobal,
+{
     let Datadir {
         setting: PlaySetting { params, table },
         log,
         bytes,
         lock,
-    } = datadir;
-    let Unpacked {
-        journal,
-        blk,
-        verdicts,
-    } = read_lines(rt.alloc(), bytes.as_slice())?;
+    } = open_datadir(rt, folder, options)?;
+    if !options.is_cut {
+        check_lines(rt.alloc(), folder, bytes.as_slice())?;
+    }
+    let table = table.unwrap_or(Table::new(rt.alloc()));
     Ok(Disk {
-        inputs: SavedRun {
-            params,
-            journal,
-            blk,
-            verdicts,
-            table: table.unwrap_or(Table::new(rt.alloc())),
+        begin: Beginning {
+            inputs: without_steps(rt.alloc(), params, table),
+            lock: Some(lock),
         },
         log: Some(log),
         bytes,
-        lock: Some(lock),
     })
 }
 
+/// Nothing to be played, under these heights and this table.
+fn without_steps(alloc: Global, params: Params, table: Table) -> SavedRun {
+    SavedRun {
+        params,
+        journal: Vec::new(alloc),
+        blk: Vec::new(alloc),
+        verdicts: Vec::new(alloc),
+        table,
+    }
+}
+
 /// Locks the folder into which a node saves at its end.
-fn lock_to_save<'w, R>(rt: &R, folder: &'w str) -> Result<File, RunFault<'w>>
+fn lock_saved<'w, R>(rt: &R, folder: &'w str) -> Result<FolderLock, RunFault<'w>>
 where
     R: Files<File = File> + AllocGlobal,
 {
     check_folder(rt, folder)?;
-    lock_for_node(rt, folder)
+    lock_to_save(rt, folder)
 }
 
-/// Says what the one who started the node has to know of its folder.
-fn tell_opening<E: Write>(options: &ServeOptions<'_>, bytes: &[u8], err: &mut E) {
-    let cut = (bytes.len() as u64).saturating_sub(whole_lines(bytes).end);
-    if cut > 0 {
-        let _ = writeln!(
-            err,
-            "regchain: {LOG}: {cut} bytes of an unfinished line were cut off"
-        );
-    }
+/// Says what the one who starts the node has to know of its answers.
+fn tell_unsynced<E: Write>(options: &ServeOptions<'_>, err: &mut E) {
     if options.datadir.is_some() && options.is_unsynced {
         let _ = writeln!(
             err,
             "regchain: --no-sync: a crash of the machine may lose what was answered"
         );
     }
+}
+
+/// Says what was cut off a log, and where it is.
+fn tell_cut<E: Write>(folder: &str, torn: Torn, err: &mut E) {
+    let Torn {
+        bytes,
+        lines,
+        number,
+    } = torn;
+    let _ = if lines == 0 {
+        writeln!(
+            err,
+            "regchain: {LOG}: {bytes} bytes of an unfinished line were cut off: no whole line, kept in {folder}/torn-{number}"
+        )
+    } else {
+        writeln!(
+            err,
+            "regchain: {LOG}: {bytes} bytes behind a zero byte were cut off: {lines} whole lines, kept in {folder}/torn-{number}"
+        )
+    };
 }
 
 /// What is played before the first request: what is known of signatures, then what the lines of a journal ask over these
@@ -224,7 +273,7 @@ where
         steps,
         valid,
         invalid,
-        is_kept: options.datadir.is_some(),
+        kept: None,
         blk,
         workers: options.workers,
     })
@@ -254,11 +303,10 @@ fn serve_and_save<'w, R, I, E, H>(
     rt: &R,
     options: &ServeOptions<'w>,
     gate: &(dyn Gate + Sync),
-    earlier: &Earlier<'_>,
+    earlier: &mut Earlier<'_>,
     facts: Facts<'_>,
     table: &Arc<Table>,
-    streams: Streams<'_, I, E>,
-    log: &Mutex<Option<KeptLog<H>>>,
+    ends: Ends<'_, 'w, I, E, H>,
 ) -> Result<(), RunFault<'w>>
 where
     R: Files<File = File> + AllocGlobal + Clock + Threads + Wait + Sync,
@@ -267,6 +315,7 @@ where
     H: Host<Failure = HostFault> + Drop,
 {
     let mut facts = facts;
+    let log = Mutex::new(None);
     let opening = if facts.is_by_need {
         Opening::by_need(facts.params, facts.seats)
     } else {
@@ -276,10 +325,10 @@ where
         entries,
         fits,
         ended,
-    } = serve_at_node::<Brand, R, I, E, H>(rt, opening, gate, earlier, &mut facts, streams, log)?;
+    } = serve_at_node::<Brand, R, I, E, H>(rt, opening, gate, earlier, &mut facts, ends, &log)?;
     let ServiceOutcome { stop, served } = ended?;
     let steps = entries.len() as u64;
-    let kept = keep_rest(rt, &facts, entries.as_slice(), log);
+    let kept = keep_rest(rt, &facts, entries.as_slice(), &log);
     let saved = match options.save {
         Some(folder) => save_served(rt, folder, &facts, entries),
         None => Ok(()),
@@ -325,13 +374,7 @@ where
     }
     let params = read_heights(options.heights.unwrap_or(HEIGHTS)).ok_or(RunFault::Heights)?;
     let table = read_table_file(rt, options.table)?;
-    Ok(SavedRun {
-        params,
-        journal: Vec::new(rt.alloc()),
-        blk: Vec::new(rt.alloc()),
-        verdicts: Vec::new(rt.alloc()),
-        table,
-    })
+    Ok(without_steps(rt.alloc(), params, table))
 }
 
 /// The clients of an earlier run, and the seats.
@@ -372,9 +415,9 @@ fn serve_at_node<'f, J: Naming, R, I, E, H>(
     rt: &R,
     opening: Opening<'_>,
     gate: &(dyn Gate + Sync),
-    earlier: &Earlier<'_>,
+    earlier: &mut Earlier<'_>,
     facts: &mut Facts<'_>,
-    streams: Streams<'_, I, E>,
+    ends: Ends<'_, 'f, I, E, H>,
     log: &Mutex<Option<KeptLog<H>>>,
 ) -> Result<Served<'f>, RunFault<'f>>
 where
@@ -387,12 +430,22 @@ where
     let (node, mut seats) = Node::<J>::open(rt.alloc(), opening, facts.workers, gate).map_err(
         unopened,
     )?;
+    let Ends {
+        input,
+        err,
+        folder,
+        uncut,
+    } = ends;
     let played = match seats.first_mut() {
-        Some(seat) => play_watched(rt, &node, seat, earlier, &mut facts.clients, streams.err),
+        Some(seat) => play_watched(rt, &node, seat, earlier, facts, err),
         None => Ok(()),
     };
-    let ended = match played {
-        Ok(()) => serve_seats(rt, &node, seats.as_mut_slice(), facts, streams.input, log),
+    let opened = match played {
+        Ok(()) => open_log(rt, folder, uncut, log, err),
+        Err(fault) => Err(fault),
+    };
+    let ended = match opened {
+        Ok(()) => serve_seats(rt, &node, seats.as_mut_slice(), facts, input, log),
         Err(fault) => Err(fault),
     };
     // The process ends soon: what is published isn't freed.
@@ -405,6 +458,38 @@ where
         fits,
         ended,
     })
+}
+
+/// Cuts off what follows a log's whole lines, once it is kept beside. From then on the log takes steps.
+fn open_log<'f, R, E, H>(
+    rt: &R,
+    folder: &'f str,
+    uncut: UncutLog<H>,
+    log: &Mutex<Option<KeptLog<H>>>,
+    err: &mut E,
+) -> Result<(), RunFault<'f>>
+where
+    R: Files<File = File> + AllocGlobal + Wait,
+    E: Write,
+    H: Host<Failure = HostFault> + Drop,
+{
+    let end = uncut.found.end;
+    let torn = if end < uncut.len {
+        Some(keep_torn(rt, folder, end)?)
+    } else {
+        None
+    };
+    match KeptLog::open(rt.alloc(), uncut) {
+        Ok(kept) => {
+            let mut guard = log.lock(rt);
+            *guard = Some(kept);
+        }
+        Err(Lost { fault, host: _host }) => return Err(RunFault::from(fault)),
+    }
+    if let Some(torn) = torn {
+        tell_cut(folder, torn, err);
+    }
+    Ok(())
 }
 
 /// Serves until the end. Where a request asks to save, that is done while none is under way.
@@ -444,17 +529,17 @@ fn play_watched<J: Naming, R, E>(
     rt: &R,
     node: &Node<'_, J>,
     seat: &mut Seat<'_, J>,
-    earlier: &Earlier<'_>,
-    clients: &mut Clients<'_>,
+    earlier: &mut Earlier<'_>,
+    facts: &mut Facts<'_>,
     err: &mut E,
 ) -> Result<(), RunFault<'static>>
 where
     R: AllocGlobal + Clock + Threads + Wait + Sync,
     E: Write + IsTerminal,
 {
-    let is_wanted = err.is_terminal() && !earlier.commands.is_empty();
+    let is_wanted = err.is_terminal() && facts.loaded > 0;
     let mut progress = Progress::new(rt, err, is_wanted);
-    play_earlier(rt, node, seat, earlier, clients, &mut progress)?;
+    play_earlier(rt, node, seat, earlier, facts, &mut progress)?;
     progress.end();
     Ok(())
 }

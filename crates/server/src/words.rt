@@ -4,16 +4,11 @@ ghost use Rattle.std.specs.Prelude.{◌≡◌};
 
 use console::options::{NAME, VERSION};
 use console::report::Clients;
+pub use console::report::SEATS;
 use node::Params;
 use serving::Info;
 use signatures::Table;
 use std::sync::Arc;
-
-/// The names of the seats in a journal.
-pub const SEATS: [&str; 16] = [
-    "seat0", "seat1", "seat2", "seat3", "seat4", "seat5", "seat6", "seat7", "seat8", "seat9",
-    "seat10", "seat11", "seat12", "seat13", "seat14", "seat15",
-];
 
 /// How a node was opened, and who asked for its steps.
 #[derive(Drop)]

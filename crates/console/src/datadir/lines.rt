@@ -3,7 +3,7 @@
 
 use crate::fault::RunFault;
 use crate::report::Clients;
-use durable::first_line;
+use durable::{Found, first_line, spoiled_at, whole_lines};
 use journal::{Asked, RecordFault, Step, block_of, put_record};
 use memchr::memchr;
 use model::{Command, Entry};
@@ -35,6 +35,24 @@ pub fn entry_line(
         _ => {}
     }
     Ok(line.into_bytes())
+}
+
+/// Refuses the text of this folder's log if whole lines stand behind a zero byte, or the line that follows one ended by it.
+pub fn check_lines<'w>(alloc: Global, folder: &'w str, text: &[u8]) -> Result<(), RunFault<'w>> {
+    if let Some(place) = spoiled_at(text) {
+        return Err(RunFault::Spoiled(folder, place));
+    }
+    let Found { count, end } = whole_lines(text);
+    let behind = text.get(end as usize..).unwrap_or(&[]);
+    let Some(zero) = memchr(0, behind) else {
+        return Ok(());
+    };
+    let next = behind.get(zero.saturating_add(1)..).unwrap_or(&[]);
+    let number = format!(in alloc; "{} ", count.saturating_add(2))?;
+    if next.starts_with(number.as_bytes()) && memchr(b'\n', next).is_some() {
+        return Err(RunFault::Spoiled(folder, end.saturating_add(zero as u64)));
+    }
+    Ok(())
 }
 
 /// A signature, and whether it is valid.
