@@ -85,6 +85,14 @@ where
     })
 }
 
+/// Whether a folder has a log.
+pub fn has_log<R>(rt: &R, folder: &str) -> Result<bool, AllocError>
+where
+    R: Files + AllocGlobal,
+{
+    Ok(is_there(rt, path_of(rt.alloc(), folder, LOG)?.as_str()))
+}
+
 /// Makes a folder, and brings its name onto the disk.
 fn make_folder<R: Files<File = File> + AllocGlobal>(rt: &R, folder: &str) -> io::Result<()> {
     match fs::create_dir(rt, folder) {
@@ -178,6 +186,9 @@ fn open_log<R: Files<File = File>>(rt: &R, path: &str, bytes: &mut Vec<u8>) -> i
     check_regular(rt, path)?;
     let mut file = OpenOptions::new().read(true).append(true).open(rt, path)?;
     file.sync_all()?;
+    // Else it is moved again and again as it grows.
+    let len = file.metadata()?.len() as usize;
+    bytes.reserve(len.saturating_add(1))?;
     file.read_to_end(bytes)?;
     Ok(file)
 }

@@ -4,7 +4,7 @@ use crate::datadir::triple_lines;
 use crate::fault::RunFault;
 use crate::options::{ExportOptions, Saved};
 use crate::replay::{SavedRun, read_inputs};
-use crate::saves::{SavedFiles, heights_line, save_files, save_invalid};
+use crate::saves::{SavedFiles, heights_line, make_folder, save_files, save_invalid};
 use journal::{Asked, Step, read_journal};
 use std::alloc::Global;
 use std::fs::File;
@@ -29,6 +29,7 @@ where
         table: table.to_string(rt.alloc())?.into_bytes(),
         heights: heights_line(rt.alloc(), &params)?.into_bytes(),
     };
+    make_folder(rt, options.save)?;
     save_files(rt, options.save, &files)?;
     save_invalid(rt, options.save, invalid.as_str())
 }

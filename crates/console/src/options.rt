@@ -172,11 +172,48 @@ impl<'w> CommandOptions<'w> {
             return Ok(CommandOptions::Run(STANDARD_RUN));
         }
         let matches = matches(alloc, words)?;
+        if let Some(("run", run)) = matches.subcommand() {
+            check_view(alloc, run)?;
+        }
         match options_of(alloc, &matches, is_terminal)? {
             Some(options) => Ok(options),
             None => Err(error(alloc, ErrorKind::InvalidSubcommand, "no such command line")?),
         }
     }
+}
+
+/// Refuses an option of a block tree that a run shows nowhere.
+fn check_view(alloc: Global, run: &ArgMatches<'_>) -> Result<(), Error> {
+    if run.get_flag("tree") || run.get_str("svg").is_some() {
+        return Ok(());
+    }
+    let Some(name) = first_view_option(run) else {
+        return Ok(());
+    };
+    let message = format!(in alloc;
+        "the argument '--{name}' cannot be used without '--tree' or '--svg'"
+    )?;
+    Err(error(alloc, ErrorKind::MissingRequiredArgument, message.as_str())?)
+}
+
+/// The first option that is given of how a block tree is shown.
+fn first_view_option(run: &ArgMatches<'_>) -> Option<&'static str> {
+    if run.get_one::<u64>("from").is_some() {
+        return Some("from");
+    }
+    if run.get_one::<u64>("last").is_some() {
+        return Some("last");
+    }
+    if run.get_str("fold").is_some() {
+        return Some("fold");
+    }
+    if run.get_str("color").is_some() {
+        return Some("color");
+    }
+    if run.get_flag("legend") {
+        return Some("legend");
+    }
+    None
 }
 
 /// To run the scenario on the standard input.

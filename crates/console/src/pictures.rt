@@ -1,10 +1,12 @@
 //! The block tree of a history, as it is shown and as a picture.
 
+use crate::datadir::has_log;
 use crate::fault::RunFault;
 use crate::files::{print, read_scenario};
 use crate::history_tree::history_tree;
 use crate::options::{Saved, TreeOptions};
 use crate::replay::{Replay, read_replay};
+use crate::saves::is_saved;
 use crate::text::read_definitions;
 use picture::{BlockTree, TreeView, to_svg, to_text};
 use scenario::Definitions;
@@ -31,7 +33,7 @@ where
         Some(file) => Some(read_scenario(rt, file, input)?),
         None => None,
     };
-    let replay = read_replay(rt, &Saved::Folder(options.saved), usize::MAX)?;
+    let replay = read_replay(rt, &saved_in(rt, options.saved)?, usize::MAX)?;
     let tree = match &scenario {
         Some(text) => {
             let empty = Table::new(rt.alloc());
@@ -42,6 +44,17 @@ where
     };
     print(out, tree_text(rt.alloc(), &tree, &options.view)?.as_str())?;
     write_picture(rt, options.svg, &tree, &options.view)
+}
+
+/// What a folder has: a run's files, or else a node's log.
+fn saved_in<'w, R>(rt: &R, folder: &'w str) -> Result<Saved<'w>, RunFault<'w>>
+where
+    R: Files + AllocGlobal,
+{
+    if !is_saved(rt, folder)? && has_log(rt, folder)? {
+        return Ok(Saved::Datadir(folder));
+    }
+    Ok(Saved::Folder(folder))
 }
 
 /// The tree after a replay's commands, once it is known that its picture can be written.

@@ -65,6 +65,16 @@ impl FolderFiles {
     }
 }
 
+/// Makes a folder, if nothing has its name.
+pub fn make_folder<'w, R: Files>(rt: &R, folder: &'w str) -> Result<(), RunFault<'w>> {
+    match fs::create_dir(rt, folder) {
+        Err(error) if error.kind() != ErrorKind::AlreadyExists => {
+            Err(unsaved(error, folder, JOURNAL))
+        }
+        _ => Ok(()),
+    }
+}
+
 /// Refuses a name that is no folder's: nothing can be saved there.
 pub fn check_folder<'w, R: Files>(rt: &R, folder: &'w str) -> Result<(), RunFault<'w>> {
     match check_is_folder(rt, folder) {
@@ -354,6 +364,19 @@ where
         None
     };
     read_places(rt, folder, &places)
+}
+
+/// Whether a run's journal is there, or was begun.
+fn has_run<R: Files>(rt: &R, places: &FolderFiles) -> bool {
+    stands(rt, places.journal.path.as_str()) || stands(rt, places.journal.new.as_str())
+}
+
+/// Whether a folder has a saved run.
+pub fn is_saved<R>(rt: &R, folder: &str) -> Result<bool, AllocError>
+where
+    R: Files + AllocGlobal,
+{
+    Ok(has_run(rt, &FolderFiles::new(rt.alloc(), folder)?))
 }
 
 fn read_places<'w, R>(
