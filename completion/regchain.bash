@@ -16,7 +16,7 @@ _regchain() {
     audit) options="--saved --datadir --journal --blk --table --heights --quick --explain --to --json --help" ;;
     tree) options="--scenario --saved --blk --table --heights --svg --from --last --fold --color --legend --help" ;;
     show) options="--scenario --help" ;;
-    serve) options="--seats --workers --heights --table --blk --load --save --datadir --no-sync --by-need --busy --history-memory --help" ;;
+    serve) options="--seats --workers --heights --table --blk --load --save --datadir --no-sync --cut --by-need --busy --history-memory --help" ;;
     export) options="--datadir --save --help" ;;
     help) options="run audit tree show serve export version" ;;
     *) return ;;

@@ -55,6 +55,7 @@ complete -c regchain -n '__fish_seen_subcommand_from serve' -l load -x -a '(__fi
 complete -c regchain -n '__fish_seen_subcommand_from serve' -l save -x -a '(__fish_complete_directories)' -d 'the folder for journal.txt, blocks.blk, table.txt and heights.txt'
 complete -c regchain -n '__fish_seen_subcommand_from serve' -l datadir -x -a '(__fish_complete_directories)' -d 'the folder in which the history is kept: an answer goes out when its steps are on the disk there'
 complete -c regchain -n '__fish_seen_subcommand_from serve' -l no-sync -d 'with --datadir: answers without waiting for the disk; a crash of the machine may lose what was answered'
+complete -c regchain -n '__fish_seen_subcommand_from serve' -l cut -d 'with --datadir: cuts a log off at a zero byte, though whole lines follow; they are kept beside'
 complete -c regchain -n '__fish_seen_subcommand_from serve' -l by-need -d 'has callers tell which signatures are valid, as blocks ask for them'
 complete -c regchain -n '__fish_seen_subcommand_from serve' -l busy -d 'refuses a request where 64 wait for its seat, and reads on'
 complete -c regchain -n '__fish_seen_subcommand_from serve' -l history-memory -x -d 'refuses submissions that aren\'t kept, once such ones have taken so many megabytes'

@@ -8,6 +8,7 @@ import running
 from keeping import GENESIS, LOG
 from serving import Served
 from test_spoiled_logs import MARKS, SpoiledTest
+from test_torn_ends import COMMANDS
 
 FILES = ("history.log", "heights.txt", "table.txt", "lock")
 
@@ -83,6 +84,26 @@ class Locks(SpoiledTest):
             played = self.play(words)
             self.assertEqual((played.status, played.err.splitlines()[0]), (1, "regchain: cannot read data/journal.txt"))
         self.assertEqual(served.end(), (0, ""))
+
+
+class OtherCommands(SpoiledTest):
+    def test_a_tree_of_a_log(self) -> None:
+        """`tree --saved` reads a node's folder as it reads the export of one."""
+        self.make(COMMANDS)
+        self.expect(["export", "--datadir", "data", "--save", "exported"], "", running.Played(0, "", ""))
+        wanted = self.play(["tree", "--saved", "exported"])
+        self.assertEqual((wanted.status, len(wanted.out.splitlines())), (0, 2))
+        self.expect(["tree", "--saved", "data"], "", wanted)
+        self.make_folder("empty")
+        played = self.play(["tree", "--saved", "empty"])
+        self.assertEqual((played.status, played.err.splitlines()[0]), (1, "regchain: cannot read empty/journal.txt"))
+
+    def test_an_export_makes_its_folder(self) -> None:
+        self.make(MARKS)
+        self.expect(["export", "--datadir", "data", "--save", "new"], "", running.Played(0, "", ""))
+        self.expect(["audit", "--saved", "new"], "", running.Played(0, "agrees\n", ""))
+        played = self.play(["export", "--datadir", "data", "--save", "not/there"])
+        self.assertEqual((played.status, played.err.splitlines()[0]), (1, "regchain: cannot write not/there/journal.txt"))
 
 
 class NoRegularFile(SpoiledTest):

@@ -177,6 +177,7 @@ Options:
       --save <D>             The folder for journal.txt, blocks.blk, table.txt and heights.txt
       --datadir <D>          The folder in which the history is kept: an answer goes out when its steps are on the disk there
       --no-sync              With --datadir: answers without waiting for the disk; a crash of the machine may lose what was answered
+      --cut                  With --datadir: cuts a log off at a zero byte, though whole lines follow; they are kept beside
       --by-need              Has callers tell which signatures are valid, as blocks ask for them
       --busy                 Refuses a request where 64 wait for its seat, and reads on
       --history-memory <MB>  Refuses submissions that aren't kept, once such ones have taken so many megabytes

@@ -199,6 +199,14 @@ class Tree(ProgramTest):
         tree = lines(*LONG_FROM_11.splitlines()[:4], *LONG_FOLDED.splitlines()[4:])
         self.expect_tree([*words, *more], LONG, plain + "tree\n" + tree)
 
+    def test_options_of_a_tree_that_is_not_shown(self) -> None:
+        """A run that shows no tree and draws none takes none of them; one that draws does."""
+        for words in (["--legend"], ["--from", "1"], ["--last", "2"], ["--fold", "always"], ["--color", "never"]):
+            played = self.play(["run", "--scenario", "-", *words], LONG)
+            told = f"error: the argument '{words[0]}' cannot be used without '--tree' or '--svg'"
+            self.assertEqual((played.status, played.out, played.err.splitlines()[0]), (1, "", told))
+            self.assertEqual(self.play(["run", "--scenario", "-", "--svg", "tree.svg", *words], LONG).status, 0)
+
     def test_genesis_alone(self) -> None:
         self.expect_tree(["tree", "--scenario", "-"], "client a\n", "● genesis (0) active, best\n")
 

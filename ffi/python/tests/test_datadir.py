@@ -476,7 +476,7 @@ class DiskTest(FolderCase):
         if not shutil.which("cc") or not os.path.exists(source):
             self.skipTest("the library can't be built here")
         subprocess.run(["cc", "-O1", "-shared", "-fPIC", "-o", library, source, "-ldl"], check=True)
-        for how in ("FAIL_AT=40", "CUT_AT=41"):
+        for how in ("FAIL_AT=41", "CUT_AT=42"):
             with open(program, "w", encoding="ascii") as file:
                 file.write(f"#!/bin/sh\nLD_PRELOAD={library} {how} exec {PROGRAM} \"$@\"\n")
             os.chmod(program, 0o700)
@@ -628,6 +628,7 @@ class CookieTest(FolderCase):
         port = first.url.rstrip("/").rpartition(":")[2]
         told = self.ends(f"-rpcport={port}", HOME=os.path.dirname(self.folder))
         self.assertIn("Address already in use", told)
+        self.assertIn(f"127.0.0.1:{port}", told)
         self.assertEqual(first.call("getblockcount"), 0)
 
     def test_of_the_same_file(self):

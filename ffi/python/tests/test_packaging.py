@@ -7,6 +7,7 @@ import subprocess
 import sys
 import tempfile
 import unittest
+from unittest import mock
 
 import wakotehu
 from test_node import PROGRAM as REGCHAIN
@@ -148,6 +149,15 @@ class PackageTest(unittest.TestCase):
         self.assertEqual(self.said("--version").stdout, f"wakotehu {wakotehu.__version__}\n")
         self.assertIn("usage: python3 -m wakotehu", self.said("--help").stdout)
         self.assertEqual(self.said("nonsense").returncode, 2)
+
+    def test_an_unusable_libsecp256k1_is_told(self):
+        """One that can't be loaded, or hasn't the calls: it isn't shown as if it were used."""
+        from wakotehu import __main__ as said
+
+        with mock.patch.object(said, "secp256k1_library", lambda: None):
+            for name, told in (("libc.so.6", "not usable: libc.so.6: "), ("libnone.so.9", "not usable: libnone.so.9: "), (None, "not found: ")):
+                with mock.patch("ctypes.util.find_library", lambda _, name=name: name):
+                    self.assertEqual(said.signatures()[: len(told)], told)
 
     def test_each_exception_says_what_it_is(self):
         for name, kind in vars(wakotehu.errors).items():

@@ -8,6 +8,7 @@ from typing import Callable
 from .errors import Error
 from .library import library, secp256k1_library
 from .served import program_path
+from .signatures import Secp256k1
 from .version import __version__
 
 
@@ -17,7 +18,13 @@ def signatures() -> str:
     if found is not None:
         return str(found._name)
     alone = ctypes.util.find_library("secp256k1")
-    return f"{alone}, in one thread" if alone else "not found: install libsecp256k1 for Bench and wakotehu-server"
+    if not alone:
+        return "not found: install libsecp256k1 for Bench and wakotehu-server"
+    try:
+        Secp256k1()
+    except (AttributeError, OSError) as error:
+        return f"not usable: {alone}: {error}"
+    return f"{alone}, in one thread"
 
 
 def shown(name: str, find: Callable[[], str]) -> bool:

@@ -235,6 +235,14 @@ class Server(socketserver.TCPServer):
         self._is_closed = False
         super().__init__((host, port), Handler)
 
+    def server_bind(self) -> None:
+        """Takes its address; a fault names it."""
+        try:
+            super().server_bind()
+        except OSError as error:
+            host, port = self.server_address[:2]
+            raise OSError(error.errno, error.strerror, f"{host}:{port}") from None
+
     def run(self) -> None:
         """Serves until it is shut down. One that was closed before, as by an interrupt, serves nobody."""
         try:
