@@ -1,6 +1,7 @@
 """The files of a node's folder: one that is missing, removed while a node runs, or no regular file."""
 from __future__ import annotations
 
+import fcntl
 import os
 import subprocess
 
@@ -73,6 +74,17 @@ class Locks(SpoiledTest):
         self.assertEqual(first.ask("invalidate", seat=0, id=GENESIS)["at"], 2)
         self.assertEqual(first.end(), (0, ""))
         self.assertEqual(len(self.history()), 2)
+
+    def test_each_of_the_locks(self) -> None:
+        """The file `lock`, which older programs take alone, keeps a node out, and so does the folder's own lock."""
+        self.make(MARKS)
+        for name in ("data/lock", "data"):
+            held = os.open(self.path(name), os.O_RDONLY)
+            fcntl.flock(held, fcntl.LOCK_EX)
+            ended = self.serve(b"")
+            os.close(held)
+            self.assertEqual((ended.returncode, ended.stderr.splitlines()[1]), (1, b"cannot write data/lock: another process has the folder"))
+        self.assertEqual(self.serve(b"").returncode, 0)
 
     def test_an_audit_isnt_kept_waiting(self) -> None:
         """Neither of the log, nor of saved files that aren't there."""
