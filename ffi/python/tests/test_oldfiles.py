@@ -152,7 +152,10 @@ class OldFilesTest(OldFilesCase):
         text = self.read(self.path("journal.txt"))
         blocks, last = self.read(self.path("blocks.blk")), COMMANDS
         for name, wrong, told in (
-            ("journal.txt", text.replace(b"= duplicate\n", b"= accepted\n"), "line 103: 'accepted' was answered, and 'duplicate' now"),
+            (
+                "journal.txt", text.replace(b"= duplicate-invalid\n", b"= accepted\n"),
+                "line 104: 'accepted' was answered, and 'duplicate-invalid' now",
+            ),
             ("journal.txt", text.replace(b"2 rpc", b"3 rpc", 1), "journal.txt line 2 can't be read"),
             ("journal.txt", b"x\n" + text, "journal.txt line 1 can't be read"), ("heights.txt", b"1,x\n", "heights.txt can't be read"),
             ("blocks.blk", blocks[:-1], "blocks.blk has no block of line"), ("table.txt", b"02 30\n", "line 1 of the table can't be read"),

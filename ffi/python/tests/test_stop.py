@@ -1,6 +1,5 @@
 """SIGTERM and SIGINT, once and twice, at many moments: the server ends within a second, in order, and says nothing."""
 
-import fcntl
 import os
 import random
 import signal
@@ -85,7 +84,7 @@ class StopTest(test_datadir.FolderCase):
         for number in range(12):
             process = self.command()
             # A signal before the command's first step ends it as any other program.
-            while self.is_free() and process.poll() is None:
+            while not self.has_begun(process) and process.poll() is None:
                 time.sleep(0.005)
             time.sleep(chance.random() * 0.4)
             began = time.monotonic()
@@ -96,14 +95,14 @@ class StopTest(test_datadir.FolderCase):
             self.assertEqual((process.returncode, told[1]), (0, ""))
         self.assertEqual(self.started().call("getblockcount"), 3000)
 
-    def is_free(self):
-        """Whether no server has the folder."""
-        with open(os.path.join(self.folder, ".lock"), "rb") as file:
-            try:
-                fcntl.flock(file, fcntl.LOCK_EX | fcntl.LOCK_NB)
-            except BlockingIOError:
-                return False
-        return True
+    @staticmethod
+    def has_begun(process):
+        """Whether the server's node runs."""
+        try:
+            with open(f"/proc/{process.pid}/task/{process.pid}/children", encoding="ascii") as file:
+                return bool(file.read())
+        except OSError:
+            return False
 
     def command(self):
         process = subprocess.Popen(
