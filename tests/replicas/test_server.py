@@ -3,8 +3,11 @@ from __future__ import annotations
 
 import json
 import os
+import signal
+import socket
 import subprocess
 import sys
+import time
 import unittest
 import uuid
 from urllib.request import Request, urlopen
@@ -125,8 +128,16 @@ class TwoServers(ReplicaTest):
         request = Request(f"http://{line.strip()}/", b'{"method":"getblockcount"}', {"Content-Type": "application/json"})
         with urlopen(request, timeout=60) as answer:
             self.assertEqual(json.load(answer)["result"], 0)
-        process.terminate()
-        self.assertEqual((process.communicate(timeout=60)[1], process.returncode), ("", 0))
+        # It ends at once, whatever it does.
+        body = b'{"method":"generatetodescriptor","params":[30000,"raw(51)"]}'
+        with socket.create_connection(("127.0.0.1", int(line.rpartition(":")[2])), 60) as connection:
+            connection.sendall(b"POST / HTTP/1.1\r\nHost: 127.0.0.1\r\nContent-Length: %d\r\n\r\n%b" % (len(body), body))
+            time.sleep(0.5)
+            began = time.monotonic()
+            for number in (signal.SIGTERM, signal.SIGINT):
+                process.send_signal(number)
+            self.assertEqual((process.communicate(timeout=60)[1], process.returncode), ("", 0))
+        self.assertLess(time.monotonic() - began, 2)
 
 
 if __name__ == "__main__":
