@@ -3,4 +3,5 @@ mod Lives
 mod CutEnd
 pub mod Sound
 mod Torn
+mod TornLine
 mod Whole

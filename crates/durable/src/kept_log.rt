@@ -22,10 +22,7 @@ pub struct KeptLog<H: Host> {
 
 impl<H: Host> KeptLog<H> {
     /// The log of a file. What follows its whole lines is cut off.
-    pub fn open(
-        alloc: Global,
-        uncut: UncutLog<H>,
-    ) -> Result<KeptLog<H>, Lost<H::Failure, H>>
+    pub fn open(alloc: Global, uncut: UncutLog<H>) -> Result<KeptLog<H>, Lost<H::Failure, H>>
         ensures history { IfOk result (λ log.
             history H.calls log.log ≡ lines (file_of H.calls uncut.host)) }
         ensures any_moment { IfOk result (λ log. KeepsBetween

@@ -11,7 +11,7 @@ mod uncut_log;
 
 pub use host::{Asked, Call, Host};
 pub use kept_log::KeptLog;
-pub use laws::nothing_told_is_lost;
+pub use laws::{a_torn_line_is_not_refused, nothing_told_is_lost};
 pub use lines::{Found, first_line, recover, spoiled_at, whole_lines};
 pub use log::{Answer, AppendFault, Log};
 pub use lost::Lost;
