@@ -1,19 +1,21 @@
 -- A coin stays the same one on any branch that has its block, until it is spent; what another branch takes back.
 use Rattle.std.proofs.Common.{◌≡◌, ℕ, zero, suc, leb, ltb, ◌+◌, ◌-◌, ◌<◌, ◌≤◌, ◌||◌, Bool, true, false, cond, List, [], ◌∷◌, ◌++◌, length, map, Option, Some, None, refl, sym, ap, subst, ◌∙◌, inl, inr, ◌⊎◌, arith, length-append, append_assoc}
-use Rattle.std.specs.Prelude.{is_some, option_map}
+use Rattle.std.specs.Prelude.{drop, int_lt, is_some, option_map, pos, ◌+ℤ◌}
 use Rattle.std.specs.Option.{option_or}
-use Rattle.std.specs.List.{list_any, range_with_len}
+use Rattle.std.specs.List.{flat_map, list_any, range_with_len}
 use Rattle.std.specs.FinMap as coin_map
 use Rattle.std.proofs.lemmas.Bool.{cases_eq, true≢false}
 use Rattle.hash.specs.declared.id.Id.{Id}
 use Rattle.txn.specs.declared.outpoint.OutPoint.{OutPoint}
 use Rattle.txn.specs.declared.output.TxOut.{TxOut}
 use Rattle.txn.specs.declared.reason.Reason.{Reason}
+use Rattle.txn.specs.declared.reason.Reason.TheVariants.{CoinbaseAmount, OverwritesCoin}
 use Rattle.txn.specs.declared.tx.Tx.{Tx}
 use Rattle.txn.specs.Check.{is_coinbase}
 use Rattle.txn.specs.First.{first_broken}
 use Rattle.txn.specs.Identity.{id_of}
 use Rattle.block.specs.BlockOfBytes.{block_of_bytes}
+use Rattle.block.specs.Reward.{subsidy_of}
 use Rattle.block.specs.declared.block.Block.{Block}
 use Rattle.signatures.specs.Triple.{Triples}
 use Rattle.script.specs.Kinds.{is_unspendable}
@@ -23,12 +25,13 @@ use Rattle.coins.specs.laws.Lookups.{entry_for, same-true}
 use Rattle.undo.specs.Effect.{after, coin_of, makes, outpoint_at, spendable, spends}
 use Rattle.rules.specs.declared.params.Params.{Params}
 use Rattle.connect.specs.BlockContext.{Setting}
-use Rattle.connect.specs.Faults.{connect_rules, has_coin, overwrites}
-use Rattle.connect.specs.Turns.{effect}
-use Rattle.connect.specs.computed.Scripts.{connect_fault}
+use Rattle.connect.specs.Faults.{connect_rules, fees, has_coin, overwrites, reward_of, turn_rules}
+use Rattle.connect.specs.Scripts.{script_checks}
+use Rattle.connect.specs.Turns.{effect, turns}
+use Rattle.connect.specs.computed.Scripts.{connect_fault, first_refused}
 use Rattle.connect.specs.laws.Broken.{head_clear}
 use Rattle.connect.specs.laws.Turns.{effect_none, effect_next}
-use Rattle.tree.specs.Branches.{Kept, Blocks, block_at, height, on, parent_at, place_of}
+use Rattle.tree.specs.Branches.{Kept, Blocks, block_at, blocks_at, branch, height, on, parent_at, place_of}
 use Rattle.tree.specs.State.{State, opening, without_marks, with_call, with_mark}
 use Rattle.tree.specs.Limits.{max_blocks}
 use Rattle.tree.specs.laws.AddedBlock.{blocks-old}
@@ -43,7 +46,7 @@ use Rattle.model.specs.Chainstate.{chainstate, coin_read, confirmations}
 use Rattle.model.specs.Commands.{command_step, submit_step}
 use Rattle.model.specs.Context.{first_fault}
 use Rattle.model.specs.History.{state_after_entries, state_left}
-use Rattle.model.specs.Regtest.{ledger, regtest}
+use Rattle.model.specs.Regtest.{ledger, regtest, setting_on}
 use Rattle.model.specs.Replay.{coins, coins_at, replay}
 use Rattle.model.specs.Rules.{Rules}
 use Rattle.model.specs.Settle.{active, settle}
@@ -180,7 +183,10 @@ no_fault None b e = refl
 
 fresh : (s : Setting) (m : Coins) (txs : List Tx) (valid : Triples) → connect_fault s m txs valid ≡ None → list_any (overwrites m) txs ≡ false
 unfolding connect_fault connect_rules
-fresh s m txs valid e = head_clear _ _ _ (no_fault _ _ e)
+fresh s m txs valid e =
+    head_clear (list_any (overwrites m) txs) OverwritesCoin
+    (flat_map (turn_rules s) (turns s.height m 0 txs) ++ (int_lt (pos (subsidy_of s.height) +ℤ fees (drop 1 (turns s.height m 0 txs))) (reward_of txs), CoinbaseAmount) ∷ [])
+    (no_fault (first_broken (connect_rules s m txs)) (first_refused valid (script_checks s m txs)) e)
 
 -- ---- along a branch
 
@@ -205,7 +211,9 @@ module _ (params : Params) (valid : Triples) (t : Blocks Block) (q : OutPoint) w
       let old = below (valid_below r t y parent v on_parent) (λ w ow hw. f w (on_trans t y parent w on_parent ow) hw) in
       let none = connects-parent r ledger t y (omega arith) k (valid_gives r t y y v (on-itself t y k)) in
       subst (λ (n : Coins). coin_map.get n q ≡ Some c) (sym (step-up r ledger t y (omega arith) k))
-      (keeps (at parent) q c old (height t y) (at parent) (block_at r.names t y).txs old (fresh _ (at parent) (block_at r.names t y).txs valid none) (f y (on-itself t y k) (omega arith))))
+      (keeps (at parent) q c old (height t y) (at parent) (block_at r.names t y).txs old
+      (fresh (setting_on params (blocks_at r.names t (branch t parent))) (at parent) (block_at r.names t y).txs valid none)
+      (f y (on-itself t y k) (omega arith))))
       p h o v free
 
   -- an ancestor is lower
@@ -220,16 +228,24 @@ module _ (params : Params) (valid : Triples) (t : Blocks Block) (q : OutPoint) w
 
 -- ---- two states of one history
 
-read_gives : (o : Option Coin) (f : Coin → ℕ) (c : Coin) (n : ℕ) → option_map (λ x. (x, f x)) o ≡ Some (c, n) → (o ≡ Some c) × (n ≡ f c)
+abbrev coin_part : Coin → Option (Coin × ℕ) → Coin
+coin_part c None = c
+coin_part c (Some x) = x.0
+
+abbrev count_part : Option (Coin × ℕ) → ℕ
+count_part None = 0
+count_part (Some x) = x.1
+
+read_gives : (o : Option Coin) (f : Coin → ℕ) (c : Coin) (n : ℕ) → option_map {U = Coin × ℕ} (λ x. (x, f x)) o ≡ Some (c, n) → (o ≡ Some c) × (n ≡ f c)
 read_gives None f c n e = absurd (cc e)
 read_gives (Some x) f c n e =
-    let is : x ≡ c = cc e in
-    let count : f x ≡ n = cc e in
+    let is : x ≡ c = ap (coin_part c) e in
+    let count : f x ≡ n = ap count_part e in
     (ap (λ (y : Coin). Some y) is, sym count ∙ ap f is)
 
 module _ (params : Params) (valid : Triples) (es later : List Entry) (q : OutPoint) (n made : ℕ) where
-  abbrev r : Rules Block Id
-  r = regtest params valid
+  abbrev chain_rules : Rules Block Id
+  chain_rules = regtest params valid
 
   abbrev s : State Block
   s = state_after_entries (chainstate params valid) opening es
@@ -239,44 +255,44 @@ module _ (params : Params) (valid : Triples) (es later : List Entry) (q : OutPoi
 
   grows_after : (u : State Block) (xs : List Entry) → Grows u.blocks (state_after_entries (chainstate params valid) u xs).blocks
   grows_after u [] = stays u.blocks
-  grows_after u (e ∷ xs) = grows_on _ _ _ (left_grows r u e.command) (grows_after (state_left u (command_step r u e.command)) xs)
+  grows_after u (e ∷ xs) = grows_on _ _ _ (left_grows chain_rules u e.command) (grows_after (state_left u (command_step chain_rules u e.command)) xs)
 
   abbrev a : ℕ
-  a = active r s
+  a = active chain_rules s
 
   abbrev b : ℕ
-  b = active r t
+  b = active chain_rules t
 
-  holds : Holds r s
-  holds = after_holds params valid opening es (opening_sound r, tt)
+  holds : Holds chain_rules s
+  holds = after_holds params valid opening es (opening_sound chain_rules, tt)
 
-  holds_later : Holds r t
+  holds_later : Holds chain_rules t
   holds_later = after_holds params valid s later holds
 
   grown : Grows s.blocks t.blocks
   grown = grows_after s later
 
-  module _ (below : IsBelowBest r s n made) where
+  module _ (below : IsBelowBest chain_rules s n made) where
     kept_a : a ≤ length s.blocks
-    kept_a = active_kept r s holds.0.genesis
+    kept_a = active_kept chain_rules s holds.0.genesis
 
     within : made ≤ length s.blocks
     within = (on-bounds s.blocks a made below.0).1
 
-    pub coin_same : (c : Coin) → coin_read r s q ≡ Some (c, n) → on t.blocks b made ≡ true → IsUnspentAbove t.blocks b made q
-        → coin_read r t q ≡ Some (c, confirmations r t c.height)
+    pub coin_same : (c : Coin) → coin_read chain_rules s q ≡ Some (c, n) → on t.blocks b made ≡ true → IsUnspentAbove t.blocks b made q
+        → coin_read chain_rules t q ≡ Some (c, confirmations chain_rules t c.height)
     coin_same c read o free =
-        let found = read_gives (coin_map.get (coins r ledger s) q) (λ x. confirmations r s x.height) c n read in
+        let found = read_gives (coin_map.get (coins chain_rules ledger s) q) (λ x. confirmations chain_rules s x.height) c n read in
         let higher = no_higher params valid s.blocks q made a kept_a below.0 in
         let is = found.1 in
         let deep = below.1 in
         let age : c.height ≡ height s.blocks made = omega (arith, is, deep, higher) in
         let then_there = since params valid s.blocks q made c age a kept_a below.0 found.0 in
-        let now_there : coin_map.get (coins_at r ledger t.blocks made) q ≡ Some c =
-        ap (λ (x : Blocks Block). coin_map.get (coins_at r ledger x made) q) grown.1
-        ∙ ap (λ (m : Coins). coin_map.get m q) (coins_kept s.blocks r grown.0 made within) ∙ then_there in
-        ap (λ (x : Option Coin). option_map (λ y. (y, confirmations r t y.height)) x)
-        (same_until params valid t.blocks q made c now_there b (active_kept r t holds_later.0.genesis) o (active_valid r t holds_later.0.genesis) free)
+        let now_there : coin_map.get (coins_at chain_rules ledger t.blocks made) q ≡ Some c =
+        ap (λ (x : Blocks Block). coin_map.get (coins_at chain_rules ledger x made) q) grown.1
+        ∙ ap (λ (m : Coins). coin_map.get m q) (coins_kept s.blocks chain_rules grown.0 made within) ∙ then_there in
+        ap (λ (x : Option Coin). option_map {U = Coin × ℕ} (λ y. (y, confirmations chain_rules t y.height)) x)
+        (same_until params valid t.blocks q made c now_there b (active_kept chain_rules t holds_later.0.genesis) o (active_valid chain_rules t holds_later.0.genesis) free)
 
     pub taken_back : on t.blocks b made ≡ false → (x : ℕ) → on s.blocks a x ≡ true → on t.blocks b x ≡ true → height s.blocks x + n ≤ height s.blocks a
     taken_back gone x os ot =

@@ -1,3 +1,4 @@
+use Rattle.std.proofs.Common.{[]}
 use Rattle.histories.specs.laws.Reorganisations.{coin_same, taken_back}
 use Rattle.histories.proofs.laws.a_coin_is_the_same_until_its_block_is_taken_back.Goals as goal
 
