@@ -118,7 +118,7 @@ impl<'t, J: Naming> Seat<'t, J> {
         match history.judge(command, &crews, node.gate) {
             Ok(Reply::Submit(value)) => {
                 let at = self.see_all(history)?;
-                self.wants.clear();
+                self.settle();
                 Ok(Stamped { at, value })
             }
             Ok(Reply::Mark(_)) => unreachable!(),
@@ -126,5 +126,15 @@ impl<'t, J: Naming> Seat<'t, J> {
             Err(Refusal::Closed) => Err(Fault::Closed),
             Err(Refusal::Unknown(wants)) => Err(self.want(history, wants)),
         }
+    }
+
+    /// Nothing is wanted any more.
+    #[tactic(auto, using(crate::proofs::OwnEntries::own_begins))]
+    fn settle(&mut self)
+        ensures settled { self.new ≡ settled self.old }
+        ensures own { IsOwn self.new }
+    {
+        let _ = &self.params;
+        self.wants.clear();
     }
 }

@@ -24,7 +24,7 @@ use Rattle.node.specs.declared.answer.Learning.{Learning}
 use Rattle.node.specs.declared.answer.Learning.TheVariants as learning
 use Rattle.node.specs.declared.fault.Fault.{Fault}
 use Rattle.node.specs.declared.fault.Fault.TheVariants.{Memory, Owed, Closed, Unknown}
-use Rattle.node.specs.Pass.{Pass, Heard, opening_pass, IsLater, IsLonger, IsWrite, IsRead, AreCoins, IsListed, IsStanding}
+use Rattle.node.specs.Pass.{Pass, Heard, opening_pass, settled, IsLater, IsLonger, IsWrite, IsRead, AreCoins, IsListed, IsStanding}
 use Rattle.node.specs.Calls.{IsSubmitAnswer, IsLearnAnswer, IsVerdict, IsWriteFault, IsJudgeFault, IsReadFault, IsClosedFault}
 use Rattle.node.specs.Told.{AreNext, coins_in}
 use Rattle.node.specs.Runs.{Call, Submit, Mark, Learn, Judge, Spent, GetTxOut, CoinsFrom, GetBestBlockHash, GetChainTips, Journal, Note, Told, Ensures, Makes, step_of_reply, step_of_learning, step_of_fault, step_of, steps_of, IsStep, IsSubmission, IsLearnt, IsLeft, Explains, ExplainsAll}
@@ -191,6 +191,12 @@ module _ (h : List Entry) (p q : Pass) (legal : IsLegal p.origin h) (begins : Is
       let m = machine p.origin valid in
       (r.at_is, r.value_is valid agreed ∙ ap (λ (l : List Entry). value valid (state_after_entries m m.opening l)) (seen_there at r.at_is))
 
+  -- so it is of a dry run, behind which nothing is wanted
+  judged : {V : Type 0} (value : (valid : Triples) → (machine p.origin valid).State → V) (at : ℕ) (answer : V) → IsRead (settled p) q value at answer → (at ≡ length q.seen) × (answer ≡ value valid (state_at (machine p.origin valid) h (length q.seen)))
+  judged value at answer r =
+      let m = machine p.origin valid in
+      (r.at_is, r.value_is valid agreed ∙ ap (λ (l : List Entry). value valid (state_after_entries m m.opening l)) (seen_there at r.at_is))
+
   coins : (above : Option OutPoint) (most at : ℕ) (answer : List (OutPoint × Coin)) → AreCoins p q above most at answer
       → (at ≡ length q.seen) × AreNext (coins_in p.origin valid (state_at (machine p.origin valid) h (length q.seen))) above most answer
   coins above most at answer a =
@@ -235,7 +241,7 @@ module _ (h : List Entry) (p q : Pass) (legal : IsLegal p.origin h) (begins : Is
   explained (Mark c (Err f)) e = write_fault p q c f grows e.fault
   explained (Learn t v (Ok r)) e = learnt t v r.at r.value e.answer
   explained (Learn t v (Err f)) e = write_fault p q (command.Learn t v) f grows e.fault
-  explained (Judge bytes now (Ok r)) e = read _ r.at (reply.Submit r.value) e.answer
+  explained (Judge bytes now (Ok r)) e = judged _ r.at (reply.Submit r.value) e.answer
   explained (Judge bytes now (Err f)) e = judge_fault p q (command.Submit bytes now) f grows e.fault
   explained (Spent id (Ok r)) e = read _ r.at r.value e.answer
   explained (Spent id (Err f)) e = stays f (read_fault p q f e.fault)

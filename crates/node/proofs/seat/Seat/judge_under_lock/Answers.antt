@@ -21,7 +21,7 @@ returns-in-Ok-Submit-clause-answer g c =
     let see = c.in_ok-at-in-Ok-Submit.ensures in
     let said = rw c.in-Ok-Submit.field-0-is at c.in-Ok-Submit.ensures.reply in
     let seen : here.journal ≡ q.seen = sym (ap (λ (h : PublishedState). h.journal) c.in-Ok-Submit.ensures.same) ∙ sym see.seen.0 in
-    read_after (λ (x : Origin). reply_to x k) p q c.in_ok-at-in-Ok-Submit.at o here.journal _ (ap (λ (r : Pass). r.origin) c.self.view_is) seen see.seen.1 see.mine refl said
+    rw c.settle.ensures.settled (read_after (λ (x : Origin). reply_to x k) p q c.in_ok-at-in-Ok-Submit.at o here.journal _ (ap (λ (r : Pass). r.origin) c.self.view_is) seen see.seen.1 see.mine refl said)
 
 pub unreachable-requires : goal.unreachable-requires
 unreachable-requires g c =

@@ -48,15 +48,15 @@ returns-in-Ok-Some-clause-answer g c =
     stands.own ∙ ap (λ (l : List Command). own_of n (take s.answered s.seen.entries) ++ map (owed_entry n) l) c.in_ok-asked.ensures.items in
     let own : own_of n seen ≡ (own_of n (take s.answered s.seen.entries) ++ map (owed_entry n) s.owed.items) ++ entry_of n k (Some r) ∷ [] =
     ap (own_of n) all ∙ own_push n before.journal k r ∙ ap (λ (l : List Entry). l ++ entry_of n k (Some r) ∷ []) mine in
-    let none : own_of n (take at seen) ++ map (owed_entry n) c.clear.new.self.items ≡ own_of n (take at seen) =
-    ap (λ (l : List Command). own_of n (take at seen) ++ map (owed_entry n) l) c.clear.ensures.items ∙ append-nil (own_of n (take at seen)) in
+    let none : own_of n (take at seen) ++ map (owed_entry n) c.clear-in-Ok-Some.new.self.items ≡ own_of n (take at seen) =
+    ap (λ (l : List Command). own_of n (take at seen) ++ map (owed_entry n) l) c.clear-in-Ok-Some.ensures.items ∙ append-nil (own_of n (take at seen)) in
     let whole : own_of n (take at seen) ≡ own_of n seen = ap (own_of n) (take_all at seen (omega (arith, c.len-at.ensures))) in
     rw (← c.self.view_is) (answer_step _ _ k at r did.1.0 (subst (λ (q : Command). IsReplyTo q r) asked did.1.1) (record {
       last = (before.journal, all, stands.begins);
       at_is = c.len-at.ensures;
       mine_is = none ∙ whole ∙ own;
       own_is = sym (none ∙ whole);
-      wants_is = c.clear-2.ensures.items;
+      wants_is = c.clear-in-Ok-Some-2.ensures.items;
     }))
 
 pub returns-clause-held : goal.returns-clause-held
