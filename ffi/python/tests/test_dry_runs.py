@@ -17,7 +17,7 @@ from wakotehu.encoding import (
     write_transaction,
 )  # fmt: skip
 from wakotehu.nodebench import NodeBench
-from wakotehu.rpc import node as rpc_node
+from wakotehu.rpc import node as rpc_node, stats as rpc_stats
 
 COIN, LAST = 50 * 100_000_000, 0xFFFFFFFF
 MISSING, LOCKED = "bad-txns-inputs-missingorspent", "bad-txns-nonfinal"
@@ -253,7 +253,7 @@ class ReadOnceTest(Blocks):
             read.reset_mock()
             shown = self.call("getblock", told["hash"], 2)
             self.assertEqual(read.call_count, 1)
-            read.reset_mock()
+        with mock.patch.object(rpc_stats, "outline", wraps=rpc_stats.outline) as read:
             stats = self.call("getblockstats", told["hash"])
             self.assertEqual(read.call_count, 1)
         self.assertEqual([tx.get("fee") for tx in shown["tx"]], [None] + [0.00000999] * 1000)

@@ -349,7 +349,8 @@ class Bench(Walks):
 
     def coins_at(self, outpoints: Sequence[Tuple[bytes, int]]) -> List[Optional[Coin]]:
         """The coins at some outpoints, or None."""
-        return [self.coin(*it) for it in outpoints]
+        pairs = [arguments.several(pair, "outpoints", 2) for pair in arguments.sequence(outpoints, "outpoints")]
+        return [self.coin(id_of(id, "outpoints"), number(index, "outpoints")) for id, index in pairs]
 
     def coins(self) -> List[Tuple[bytes, int, Coin]]:
         """As `Chainstate.coins`."""

@@ -40,17 +40,21 @@ def checksum(descriptor: str) -> str:
     """The checksum of a descriptor; empty where a character has no place in one."""
     if not is_spelled(descriptor):
         return ""
-    symbols = b"\1" + _symbols(descriptor.encode()) + bytes(8)
-    while len(symbols) > _FEW:
-        symbols = _folded(symbols)
-    state = _rest(symbols) ^ 1
-    return "".join([_PAIRS[state >> place & 1023] for place in (30, 20, 10, 0)])
+    signs = descriptor.encode()
+    if len(signs) > _FEW:
+        symbols = b"\1" + _symbols(signs) + bytes(8)
+        while len(symbols) > _FEW:
+            symbols = _folded(symbols)
+        state = _rest(symbols) ^ 1
+    else:
+        state = _rest_of_few(signs) ^ 1
+    return _PAIRS[state >> 30] + _PAIRS[state >> 20 & 1023] + _PAIRS[state >> 10 & 1023] + _PAIRS[state & 1023]
 
 
 def _symbols(signs: bytes) -> bytes:
     """The low five bits of each sign, and behind three signs, or the last, their high ones."""
     whole = len(signs) // 3 * 3 if len(signs) > _FEW else 0
-    found = bytearray(_of_threes(signs[:whole]))
+    found = bytearray(_of_threes(signs[:whole]) if whole else b"")
     for begin in range(whole, len(signs), 3):
         group, high = signs[begin : begin + 3], 0
         for own in group.translate(_HIGH):
@@ -71,11 +75,27 @@ def _of_threes(signs: bytes) -> bytes:
     return bytes(found)
 
 
-def _rest(symbols: bytes) -> int:
-    """The rest of a polynomial by the generator, as a number of eight symbols."""
-    state = 0
+def _rest(symbols: bytes, state: int = 0) -> int:
+    """The rest of a polynomial by the generator, as a number of eight symbols, behind what has the rest `state`."""
     for symbol in symbols:
         state = (state & 0x7FFFFFFFF) << 5 ^ symbol ^ _ADDED[state >> 35]
+    return state
+
+
+#: The four symbols of three signs as a sum, by each sign; and what is added for the symbols that leave the state then.
+_THREE = [[(_LOW[sign] << shift) + _HIGHS[place][_HIGH[sign]] for sign in range(256)] for place, shift in enumerate((15, 10, 5))]
+_FAR, _NEAR = ([_rest(bytes(4), pair << shift) for pair in range(1024)] for shift in (30, 20))
+
+
+def _rest_of_few(signs: bytes) -> int:
+    """The same of a few signs, three at once, and of eight zeros."""
+    (one, two, three), state = _THREE, 1
+    for first, second, third in zip(signs[::3], signs[1::3], signs[2::3]):
+        state = (state & 0xFFFFF) << 20 ^ one[first] + two[second] + three[third] ^ _FAR[state >> 30] ^ _NEAR[state >> 20 & 1023]
+    if len(signs) % 3:
+        state = _rest(_symbols(signs[len(signs) // 3 * 3 :]), state)
+    for _ in range(2):
+        state = (state & 0xFFFFF) << 20 ^ _FAR[state >> 30] ^ _NEAR[state >> 20 & 1023]
     return state
 
 

@@ -11,12 +11,13 @@ from urllib.parse import parse_qsl, urlsplit
 
 from .. import consensus
 from ..chainstate import read_id, show
-from ..encoding import Output, Transaction, block_at_front, outlines
+from ..encoding import Output, Transaction, block_at_front
 from ..nodebench import Coins
 from .blockchain import header_fields
 from .errors import INVALID_ADDRESS_OR_KEY, METHOD_NOT_FOUND, RpcError
 from .jsonrpc import written
 from .node import Call, Node, run
+from .outlines import outlines
 from .scripts import asm, kind_of, output_script
 from .txs import active_block
 from .values import Object, digits

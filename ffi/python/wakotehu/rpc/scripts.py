@@ -206,13 +206,12 @@ def base58_data(text: str, most: int = MAX_ADDRESS) -> Optional[bytes]:
 
 def descriptor_script(descriptor: str) -> bytes:
     """The script of `raw(HEX)` or `addr(ADDRESS)`, with or without a checksum."""
-    text, mark, _ = descriptor.partition("#")
+    text, mark, check = descriptor.partition("#")
     script = _fixed_script(text)
     # One that has a script has no character that descriptors have not.
-    if script is None or mark:
-        text = without_checksum(descriptor)
-    if script is not None:
+    if script is not None and (not mark or check == checksum(text)):
         return script
+    text = without_checksum(descriptor)
     if text[:4] == "raw(" and text[-1:] == ")":
         raise RpcError(INVALID_ADDRESS_OR_KEY, "Raw script is not hex")
     if text[:5] == "addr(" and text[-1:] == ")":

@@ -3,10 +3,11 @@
 from typing import Any, Dict, List, Sequence, Tuple
 
 from ..chainstate import show
-from ..encoding import Outline, outline, outlines, subsidy
+from ..encoding import subsidy
 from ..index import Kept
 from .errors import INVALID_PARAMETER, MISC_ERROR, RpcError
 from .node import Node, call
+from .outlines import Outline, outline, outlines
 from .values import Object, array, digits, integer, is_number, text
 
 #: What an output takes beside its script, in bytes, as Bitcoin Core counts it: value, outpoint, height and mark.

@@ -4,7 +4,7 @@ from typing import Any, Mapping, NamedTuple, Optional, Tuple
 
 from ..chainstate import show
 from ..encoding import (
-    GENESIS, EncodingError, Output, Transaction, block_at_front, double_sha, hash160, read_transaction, size_of,
+    GENESIS, EncodingError, Output, Transaction, block_at_front, double_sha, hash160, read_transaction,
 )  # fmt: skip
 from ..index import Kept
 from .errors import DESERIALIZATION_ERROR, INVALID_ADDRESS_OR_KEY, INVALID_PARAMETER, RpcError
@@ -151,9 +151,20 @@ def raw_transaction(hexstring: Any, fault: str, with_witness: bool) -> Raw:
     except EncodingError:
         raise RpcError(DESERIALIZATION_ERROR, fault)
     # A count that isn't spelled shortest is refused.
-    if size_of(tx) != len(data) or (with_witness and tx.outputs and not tx.inputs):
+    if _size_of(tx) != len(data) or (with_witness and tx.outputs and not tx.inputs):
         raise RpcError(DESERIALIZATION_ERROR, fault)
     return Raw(tx, data)
+
+
+def _size_of(tx: Transaction) -> int:
+    """How many bytes `write_transaction` would make."""
+    scripts = [len(it.script) for it in tx.inputs] + [len(it.script) for it in tx.outputs]
+    counts = [len(tx.inputs), len(tx.outputs), *scripts]
+    return 8 + 40 * len(tx.inputs) + 8 * len(tx.outputs) + sum(scripts) + sum(map(_size_of_count, counts))
+
+
+def _size_of_count(count: int) -> int:
+    return 1 if count < 253 else 3 if count < 2**16 else 5 if count < 2**32 else 9
 
 
 @call(GROUP, "hexstring", needed=1, types=("string",))
