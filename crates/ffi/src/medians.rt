@@ -1,6 +1,7 @@
 //! Whether the medians time past are given from which a block's relative locks by time count (BIP 68).
 
 ghost use Rattle.std.specs.Prelude.{◌≡◌};
+ghost use Rattle.std.specs.List.{list_any};
 ghost use Rattle.std.specs.FinMap as coin_map;
 ghost use Rattle.connect.specs.BlockContext.{setting};
 ghost use Rattle.ffi.specs.Medians.{lacks_medians, lacks_start, lacks_tx_start, spent_height};
@@ -15,12 +16,14 @@ use txn::{OutPoint, Tx, TxIn};
 pub(crate) fn lacks_medians(coins: &CoinMap, context: &Context, block: &Block) -> bool
     ensures { result ≡ lacks_medians (setting context.now) coins.now block.now }
 {
-    context.params.at(context.height).csv
-        && block
-            .txs
-            .as_slice()
-            .iter()
-            .any(|tx| lacks_tx_start(coins, context, tx))
+    context.params.at(context.height).csv && is_any_tx(coins, context, block.txs.as_slice())
+}
+
+/// Whether it is one of some transaction.
+fn is_any_tx(coins: &CoinMap, context: &Context, txs: &[Tx]) -> bool
+    ensures { result ≡ list_any (lacks_tx_start (setting context.now) coins.now) txs.now }
+{
+    txs.iter().any(|tx| lacks_tx_start(coins, context, tx))
 }
 
 fn lacks_tx_start(coins: &CoinMap, context: &Context, tx: &Tx) -> bool
@@ -28,11 +31,16 @@ fn lacks_tx_start(coins: &CoinMap, context: &Context, tx: &Tx) -> bool
 {
     !tx.is_coinbase()
         && has_relative_locks(tx)
-        && tx
-            .inputs
-            .as_slice()
-            .iter()
-            .any(|input| lacks_start(coins, context, input))
+        && is_any_input(coins, context, tx.inputs.as_slice())
+}
+
+/// Whether it is one of some input.
+fn is_any_input(coins: &CoinMap, context: &Context, inputs: &[TxIn]) -> bool
+    ensures { result ≡ list_any (lacks_start (setting context.now) coins.now) inputs.now }
+{
+    inputs
+        .iter()
+        .any(|input| lacks_start(coins, context, input))
 }
 
 fn lacks_start(coins: &CoinMap, context: &Context, input: &TxIn) -> bool
