@@ -1,6 +1,7 @@
 //! A node that answers requests, a JSON object a line, until its input ends.
 
 ghost use Rattle.std.specs.Prelude.{◌≡◌};
+ghost use Rattle.durable.specs.Log.{opened};
 
 use crate::delivery::tell_all;
 use crate::earlier::{Earlier, play_earlier};
@@ -20,7 +21,7 @@ use console::progress::Progress;
 use console::replay::{SavedRun, commands, read_inputs};
 use console::report::Clients;
 use console::saves::{check_folder, read_invalid};
-use durable::{Host, KeptLog, Lost, UncutLog};
+use durable::{Found, Host, KeptLog, Lost, UncutLog};
 use journal::{read_heights, read_journal, read_records};
 use node::{EndFault, Entry, Gate, Naming, Node, Opening, Params, Seat};
 use serving::{Answer, Refusal, RequestId, Stamped, answer_line, refusal_line};
@@ -50,44 +51,70 @@ where
     O: Write,
     E: Write + IsTerminal,
 {
-    let Disk { begin, log, bytes } = open_disk(rt, options)?;
+    let mut disk = open_disk(rt, options)?;
     tell_unsynced(options, err);
-    let host = FileHost::open(rt.alloc(), log, &bytes, !options.is_unsynced, out);
-    let folder = options.datadir.unwrap_or("");
-    let uncut = UncutLog::read(host, &bytes, options.is_cut);
-    drop(bytes);
-    match uncut {
-        Ok(uncut) => {
-            let ends = Ends {
-                input,
-                err,
-                folder,
-                uncut,
-            };
-            serve_over(rt, options, gate, begin, ends)
-        }
-        Err(Lost { fault, host: _host }) => Err(RunFault::Spoiled(folder, fault.place)),
-    }
+    let log = disk.log.take();
+    let host = FileHost::open(rt.alloc(), log, &disk.bytes, !options.is_unsynced, out);
+    serve_over(rt, options, gate, host, disk, Streams { input, err })
 }
 
-/// What a served node reads, where it says what the one who started it has to know, and its log, of which nothing is cut
-/// before its lines have been played.
+/// What a served node reads, and where it says what the one who started it has to know.
 #[derive(Drop)]
-struct Ends<'s, 'f, I, E, H: Host> {
+struct Streams<'s, I, E> {
     input: &'s mut I,
     err: &'s mut E,
-    /// The log's folder.
-    folder: &'f str,
-    uncut: UncutLog<H>,
 }
 
-/// Serves over a log that was read.
+/// A node's log: as it was read, of which nothing is cut before its lines have been played, and then as it takes steps.
+#[derive(Drop)]
+struct LogPlace<'f, H: Host> {
+    folder: &'f str,
+    uncut: Mutex<Option<UncutLog<H>>>,
+    kept: Mutex<Option<KeptLog<H>>>,
+}
+
+/// Serves over a log's file that was opened.
 fn serve_over<'w, R, I, E, H>(
     rt: &R,
     options: &ServeOptions<'w>,
     gate: &(dyn Gate + Sync),
+    host: H,
+    disk: Disk,
+    streams: Streams<'_, I, E>,
+) -> Result<(), RunFault<'w>>
+where
+    R: Files<File = File> + AllocGlobal + Clock + Threads + Wait + Sync,
+    I: Read + Send,
+    E: Write + IsTerminal,
+    H: Host<Failure = HostFault> + Drop,
+    requires { H.calls host ≡ opened disk.bytes.items }
+{
+    let Disk { begin, bytes, .. } = disk;
+    let folder = options.datadir.unwrap_or("");
+    let uncut = match UncutLog::read(host, &bytes, options.is_cut) {
+        Ok(uncut) => uncut,
+        Err(Lost { fault, host: _host }) => {
+            return Err(RunFault::Spoiled(folder, fault.place));
+        }
+    };
+    drop(bytes);
+    let found = uncut.found;
+    let place = LogPlace {
+        folder,
+        uncut: Mutex::new(Some(uncut)),
+        kept: Mutex::new(None),
+    };
+    serve_from(rt, options, gate, begin, (found, streams), &place)
+}
+
+/// Serves from what a node begins with on, and these whole lines of its log.
+fn serve_from<'w, R, I, E, H>(
+    rt: &R,
+    options: &ServeOptions<'w>,
+    gate: &(dyn Gate + Sync),
     begin: Beginning,
-    ends: Ends<'_, 'w, I, E, H>,
+    (found, streams): (Found, Streams<'_, I, E>),
+    log: &LogPlace<'w, H>,
 ) -> Result<(), RunFault<'w>>
 where
     R: Files<File = File> + AllocGlobal + Clock + Threads + Wait + Sync,
@@ -107,7 +134,6 @@ where
         lock: _lock,
     } = begin;
     let known = read_known(rt, options, &table)?;
-    let found = ends.uncut.found;
     let (journal, blk) = (journal.as_slice(), blk.as_slice());
     let mut earlier = read_earlier(rt, options, journal, blk, verdicts, known)?;
     earlier.kept = match options.datadir {
@@ -130,7 +156,7 @@ where
         table: Arc::clone(&table)?,
         clients: clients(alloc, &earlier)?,
     };
-    serve_and_save(rt, options, gate, &mut earlier, facts, &table, ends)
+    serve_and_save(rt, options, gate, &mut earlier, facts, &table, streams, log)
 }
 
 /// What a node begins with, where its history isn't kept, and its setting.
@@ -306,7 +332,8 @@ fn serve_and_save<'w, R, I, E, H>(
     earlier: &mut Earlier<'_>,
     facts: Facts<'_>,
     table: &Arc<Table>,
-    ends: Ends<'_, 'w, I, E, H>,
+    streams: Streams<'_, I, E>,
+    log: &LogPlace<'w, H>,
 ) -> Result<(), RunFault<'w>>
 where
     R: Files<File = File> + AllocGlobal + Clock + Threads + Wait + Sync,
@@ -315,7 +342,6 @@ where
     H: Host<Failure = HostFault> + Drop,
 {
     let mut facts = facts;
-    let log = Mutex::new(None);
     let opening = if facts.is_by_need {
         Opening::by_need(facts.params, facts.seats)
     } else {
@@ -325,10 +351,10 @@ where
         entries,
         fits,
         ended,
-    } = serve_at_node::<Brand, R, I, E, H>(rt, opening, gate, earlier, &mut facts, ends, &log)?;
+    } = serve_at_node::<Brand, R, I, E, H>(rt, opening, gate, earlier, &mut facts, streams, log)?;
     let ServiceOutcome { stop, served } = ended?;
     let steps = entries.len() as u64;
-    let kept = keep_rest(rt, &facts, entries.as_slice(), &log);
+    let kept = keep_rest(rt, &facts, entries.as_slice(), &log.kept);
     let saved = match options.save {
         Some(folder) => save_served(rt, folder, &facts, entries),
         None => Ok(()),
@@ -417,8 +443,8 @@ fn serve_at_node<'f, J: Naming, R, I, E, H>(
     gate: &(dyn Gate + Sync),
     earlier: &mut Earlier<'_>,
     facts: &mut Facts<'_>,
-    ends: Ends<'_, 'f, I, E, H>,
-    log: &Mutex<Option<KeptLog<H>>>,
+    streams: Streams<'_, I, E>,
+    log: &LogPlace<'f, H>,
 ) -> Result<Served<'f>, RunFault<'f>>
 where
     R: Files<File = File> + AllocGlobal + Clock + Threads + Wait + Sync,
@@ -430,22 +456,17 @@ where
     let (node, mut seats) = Node::<J>::open(rt.alloc(), opening, facts.workers, gate).map_err(
         unopened,
     )?;
-    let Ends {
-        input,
-        err,
-        folder,
-        uncut,
-    } = ends;
+    let Streams { input, err } = streams;
     let played = match seats.first_mut() {
         Some(seat) => play_watched(rt, &node, seat, earlier, facts, err),
         None => Ok(()),
     };
     let opened = match played {
-        Ok(()) => open_log(rt, folder, uncut, log, err),
+        Ok(()) => open_log(rt, log, err),
         Err(fault) => Err(fault),
     };
     let ended = match opened {
-        Ok(()) => serve_seats(rt, &node, seats.as_mut_slice(), facts, input, log),
+        Ok(()) => serve_seats(rt, &node, seats.as_mut_slice(), facts, input, &log.kept),
         Err(fault) => Err(fault),
     };
     // The process ends soon: what is published isn't freed.
@@ -461,33 +482,30 @@ where
 }
 
 /// Cuts off what follows a log's whole lines, once it is kept beside. From then on the log takes steps.
-fn open_log<'f, R, E, H>(
-    rt: &R,
-    folder: &'f str,
-    uncut: UncutLog<H>,
-    log: &Mutex<Option<KeptLog<H>>>,
-    err: &mut E,
-) -> Result<(), RunFault<'f>>
+fn open_log<'f, R, E, H>(rt: &R, log: &LogPlace<'f, H>, err: &mut E) -> Result<(), RunFault<'f>>
 where
     R: Files<File = File> + AllocGlobal + Wait,
     E: Write,
     H: Host<Failure = HostFault> + Drop,
 {
+    let Some(uncut) = taken(rt, &log.uncut) else {
+        return Err(RunFault::Closed);
+    };
     let end = uncut.found.end;
     let torn = if end < uncut.len {
-        Some(keep_torn(rt, folder, end)?)
+        Some(keep_torn(rt, log.folder, end)?)
     } else {
         None
     };
     match KeptLog::open(rt.alloc(), uncut) {
         Ok(kept) => {
-            let mut guard = log.lock(rt);
+            let mut guard = log.kept.lock(rt);
             *guard = Some(kept);
         }
         Err(Lost { fault, host: _host }) => return Err(RunFault::from(fault)),
     }
     if let Some(torn) = torn {
-        tell_cut(folder, torn, err);
+        tell_cut(log.folder, torn, err);
     }
     Ok(())
 }
