@@ -69,6 +69,8 @@ struct Streams<'s, I, E> {
 #[derive(Drop)]
 struct LogPlace<'f, H: Host> {
     folder: &'f str,
+    /// The whole lines that were read.
+    found: Found,
     uncut: Mutex<Option<UncutLog<H>>>,
     kept: Mutex<Option<KeptLog<H>>>,
 }
@@ -98,22 +100,22 @@ where
         }
     };
     drop(bytes);
-    let found = uncut.found;
     let place = LogPlace {
         folder,
+        found: uncut.found,
         uncut: Mutex::new(Some(uncut)),
         kept: Mutex::new(None),
     };
-    serve_from(rt, options, gate, begin, (found, streams), &place)
+    serve_from(rt, options, gate, begin, streams, &place)
 }
 
-/// Serves from what a node begins with on, and these whole lines of its log.
+/// Serves from what a node begins with on, and the whole lines of its log.
 fn serve_from<'w, R, I, E, H>(
     rt: &R,
     options: &ServeOptions<'w>,
     gate: &(dyn Gate + Sync),
     begin: Beginning,
-    (found, streams): (Found, Streams<'_, I, E>),
+    streams: Streams<'_, I, E>,
     log: &LogPlace<'w, H>,
 ) -> Result<(), RunFault<'w>>
 where
@@ -137,7 +139,7 @@ where
     let (journal, blk) = (journal.as_slice(), blk.as_slice());
     let mut earlier = read_earlier(rt, options, journal, blk, verdicts, known)?;
     earlier.kept = match options.datadir {
-        Some(folder) => Some(KeptSteps::open(rt, folder, found)?),
+        Some(folder) => Some(KeptSteps::open(rt, folder, log.found)?),
         None => None,
     };
     let table = Arc::new(alloc, table)?;
@@ -145,7 +147,7 @@ where
         params,
         seats: options.seats,
         workers: options.workers,
-        loaded: earlier.steps.len().saturating_add(found.count as usize),
+        loaded: earlier.steps.len().saturating_add(log.found.count as usize),
         is_kept: options.datadir.is_some(),
         is_unsynced: options.is_unsynced,
         is_by_need: options.is_by_need,
