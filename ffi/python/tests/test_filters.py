@@ -6,7 +6,7 @@ import unittest
 import peers
 from servers import Running
 from wakotehu.chainstate import show
-from wakotehu.encoding import GENESIS, GENESIS_BLOCK, Output, read_block, read_transaction, write_transaction
+from wakotehu.encoding import GENESIS, GENESIS_BLOCK, Input, Output, Transaction, read_block, read_transaction, write_transaction
 from wakotehu.filters import NO_HEADER, block_filter, block_scripts, filter_header, may_have, siphash
 from wakotehu.rpc.filters import FilterIndex
 
@@ -69,6 +69,87 @@ class Calls(unittest.TestCase):
         told = {"basic block filter index": {"synced": True, "best_block_height": 5}}
         self.assertEqual(self.server.call("getindexinfo"), told)
         self.assertEqual(self.server.call("getindexinfo", "txindex"), {})
+
+
+    def payment(self, height, scripts):
+        """A block behind 100 others that spends the coinbase of a height and pays to scripts."""
+        block = read_block(bytes.fromhex(self.server.call("getblock", self.server.call("getblockhash", height), 0)))
+        spends = [Input(block.transactions[0].id, 0, b"", 0xFFFFFFFF)]
+        tx = Transaction(1, spends, [Output(1000, script) for script in scripts], 0)
+        return self.server.call("generateblock", "raw(51)", [write_transaction(tx).hex()])["hash"]
+
+    def test_a_block_that_spends(self):
+        """Its filter has the scripts of what it spends and makes, by the blocks' bytes; on a branch that left too."""
+        self.server.node.filters = FilterIndex()
+        self.server.call("generatetodescriptor", 1, "raw(5152)")
+        self.server.call("generatetodescriptor", 100, "raw(51)")
+        id = self.payment(1, [b"\x53", b"\x6aa"])
+        own = block_filter(bytes.fromhex(id)[::-1], {b"\x51\x52", b"\x51", b"\x53"}).hex()
+        self.assertEqual(self.server.call("getblockfilter", id)["filter"], own)
+        self.server.node.filters = FilterIndex()
+        self.server.call("invalidateblock", id)
+        self.assertEqual(self.server.call("getblockfilter", id)["filter"], own)
+
+    def scanned(self, *words):
+        return self.server.call("scanblocks", "start", *words)
+
+    def test_scanblocks(self):
+        self.assertEqual(self.scanned([]), {"code": -1, "message": "Index is not enabled for filtertype basic"})
+        self.server.node.filters = FilterIndex()
+        first, *_ = self.server.call("generatetodescriptor", 1, "raw(5152)")
+        self.server.call("generatetodescriptor", 101, "raw(51)")
+        spending = self.payment(1, [b"\x53", b"\x6aa"])
+        self.assertEqual(
+            self.scanned(["raw(5152)"]),
+            {"from_height": 0, "to_height": 103, "relevant_blocks": [first, spending], "completed": True},
+        )
+        for words, wanted in (
+            ((["raw(53)"],), [spending]), ((["raw(6a61)"],), []), (([],), []), ((["raw(5152)", "raw(54)"], 2), [spending]),
+            ((["raw(5152)"], 1, 102), [first]), ((["raw(5152)"], 1, 1), [first]), ((["raw(5152)"], None, 102, "basic"), [first]),
+            ((["raw(5152)"], 0, 103, "basic", {"filter_false_positives": True}), [first, spending]),
+        ):  # fmt: skip
+            self.assertEqual(self.scanned(*words)["relevant_blocks"], wanted, words)
+        found = self.scanned(["raw(51)"], 2, 102)
+        self.assertEqual((found["from_height"], found["to_height"], len(found["relevant_blocks"])), (2, 102, 101))
+        self.assertEqual((self.server.call("scanblocks", "status"), self.server.call("scanblocks", "abort")), (None, False))
+
+    def test_scanblocks_refused(self):
+        """In Bitcoin Core's words (src/rpc/blockchain.cpp)."""
+        self.server.node.filters = FilterIndex()
+        self.server.call("generatetodescriptor", 3, "raw(51)")
+        for words, code, message in (
+            (("begin",), -8, "Invalid action 'begin'"), (("start",), -1, "JSON value is not an array as expected"),
+            (("start", [], 4), -1, "Invalid start_height"), (("start", [], -1), -1, "Invalid start_height"),
+            (("start", [], 2, 1), -1, "Invalid stop_height"), (("start", [], 0, 4), -1, "Invalid stop_height"),
+            (("start", [], 0, 3, "other"), -5, "Unknown filtertype"), (("start", [5]), -8, "Scan object needs to be either a string or an object"),
+            ((5,), -3, "Expected type string, got number"),
+        ):  # fmt: skip
+            error = self.server.call("scanblocks", *words)
+            self.assertEqual((error["code"], error["message"]), (code, message), words)
+        # What was refused is no scan.
+        self.assertEqual(self.scanned([])["completed"], True)
+
+    def test_scanblocks_is_told_of_and_ended(self):
+        """While it looks for filters another call tells of it, none other begins, and one ends it."""
+        index = self.server.node.filters = FilterIndex()
+        self.server.call("generatetodescriptor", 3, "raw(51)")
+        of, told = index.of, []
+
+        def seen(node, id):
+            with node.others():
+                if index.scan.done == 2:
+                    told.append(self.server.call("scanblocks", "status"))
+                    told.append(self.scanned([])["message"])
+                    told.append(self.server.call("scanblocks", "abort"))
+            return of(node, id)
+
+        index.of = seen
+        found = self.scanned(["raw(51)"], 1)
+        self.assertEqual(found, {"from_height": 1, "to_height": 3, "relevant_blocks": self.hashes(1, 3), "completed": False})
+        self.assertEqual(told, [{"progress": 66, "current_height": 2}, 'Scan already in progress, use action "abort" or "status"', True])
+
+    def hashes(self, first, last):
+        return [self.server.call("getblockhash", height) for height in range(first, last + 1)]
 
 
 def with_outputs(raw, scripts):

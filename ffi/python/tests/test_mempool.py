@@ -75,6 +75,25 @@ class RulesTest(Waiting):
         self.assertEqual(self.waiting(), {show(third.id)})
         self.assertIsNone(self.call("gettxout", show(first.id), 0))
 
+    def test_who_spends_an_output(self):
+        """In the shape and words of Bitcoin Core 24 (src/rpc/mempool.cpp)."""
+        tx = self.spends(self.coins[0])
+        id, coin, other = self.send(tx), show(self.coins[0]), show(self.coins[1])
+        asked = [{"txid": coin, "vout": 0}, {"txid": other, "vout": 0}, {"vout": 1, "txid": coin}, {"txid": id, "vout": 0}]
+        found = self.call("gettxspendingprevout", asked)
+        self.assertEqual([it.pop("spendingtxid", None) for it in found], [id, None, None, None])
+        self.assertEqual(found, asked)
+        for given, code, message in (
+            ([], -8, "Invalid parameter, outputs are missing"), ([5], -1, "JSON value is not an object as expected"),
+            ([{"txid": coin}], -3, "Missing vout"), ([{"vout": 0}], -3, "Missing txid"),
+            ([{"txid": coin, "vout": "0"}], -3, "Expected type number for vout, got string"),
+            ([{"txid": coin, "vout": 0, "script": ""}], -3, "Unexpected key script"),
+            ([{"txid": coin, "vout": -1}], -8, "Invalid parameter, vout cannot be negative"),
+            ([{"txid": "00", "vout": 0}], -8, "txid must be of length 64 (not 2, for '00')"),
+        ):  # fmt: skip
+            error = self.call("gettxspendingprevout", given)
+            self.assertEqual((error["code"], error["message"]), (code, message), given)
+
     def test_a_reorganisation_brings_transactions_back(self):
         """What was mined on the branch that left waits again, unless the new branch has it, or spends the same coin."""
         tip = block_id(self.blocks[-1])

@@ -468,6 +468,13 @@ class KeysTest(CallsTest):
             (("dumpprivkey", unknown), -4, f"Private key for address {unknown} is not known"),
             (("dumpprivkey", script), -3, "Address does not refer to a key"), (("getmemoryinfo", "x"), -8, "unknown mode x"),
             (("addnode", "127.0.0.1", "add"), -31, "Error: Peer-to-peer functionality missing or disabled"),
+            (("disconnectnode", "127.0.0.1"), -29, "Node not found in connected nodes"),
+            (("disconnectnode", None, 1), -29, "Node not found in connected nodes"), (("disconnectnode", "", 1), -29, "Node not found in connected nodes"),
+            (("disconnectnode",), -32602, "Only one of address and nodeid should be provided."),
+            (("disconnectnode", "a", 1), -32602, "Only one of address and nodeid should be provided."),
+            (("mockscheduler", 3601), -1, "delta_time must be between 1 and 3600 seconds (1 hr)"),
+            (("mockscheduler", 0), -1, "delta_time must be between 1 and 3600 seconds (1 hr)"),
+            (("mockscheduler", "1"), -3, "Expected type number, got string"),
         ):  # fmt: skip
             error = self.call(*words)
             self.assertEqual((error["code"], error["message"]), (code, message))
@@ -478,6 +485,17 @@ class KeysTest(CallsTest):
         totals = self.call("getnettotals")
         self.assertEqual((totals["totalbytesrecv"], totals["totalbytessent"], totals["uploadtarget"]["target"]), (0, 0, 0))
         self.assertEqual(set(self.call("getmemoryinfo")["locked"].values()), {0})
+        self.assertIsNone(self.call("syncwithvalidationinterfacequeue"))
+        self.assertIsNone(self.call("mockscheduler", 3600))
+
+    def test_deployments(self):
+        """Of each block, as they are in force in its child."""
+        self.assertEqual(self.call("getdeploymentinfo"), self.call("getdeploymentinfo", self.call("getbestblockhash")))
+        last = self.call("generatetodescriptor", 3, "raw(51)")[-1]
+        self.assertEqual(self.call("getdeploymentinfo")["deployments"], self.call("getblockchaininfo")["softforks"])
+        told = self.call("getdeploymentinfo", self.call("getblock", last)["previousblockhash"])
+        self.assertEqual(told["height"], self.call("getblockcount") - 1)
+        self.assertEqual(self.call("getdeploymentinfo", "00" * 32)["message"], "Block not found")
 
     def test_uptime_is_by_the_clock_that_is_set(self):
         self.assertLess(self.call("uptime"), 600)

@@ -132,7 +132,6 @@ def getdifficulty(node: Node) -> float:
 def getblockchaininfo(node: Node) -> Object:
     """The state of the chain."""
     tip, index = node.tip(), node.bench.index
-    forks = zip(("bip34", "bip65", "bip66", "csv"), node.bench.heights)
     return {
         "chain": "regtest",
         "blocks": tip.height,
@@ -146,11 +145,22 @@ def getblockchaininfo(node: Node) -> Object:
         "chainwork": work(tip.height),
         "size_on_disk": index.active_size,
         "pruned": False,
-        "softforks": {
-            name: {"type": "buried", "active": tip.height + 1 >= height, "height": height} for name, height in forks
-        },
+        "softforks": _deployments(node, tip.height),
         "warnings": "",
     }
+
+
+def _deployments(node: Node, height: int) -> Object:
+    """The soft forks, and whether each is in force in a child of an active block of a height."""
+    forks = zip(("bip34", "bip65", "bip66", "csv"), node.bench.heights)
+    return {name: {"type": "buried", "active": height + 1 >= first, "height": first} for name, first in forks}
+
+
+@call(GROUP, "blockhash")
+def getdeploymentinfo(node: Node, blockhash: Any) -> Object:
+    """The soft forks, as they are in force in a child of a kept block, or of the active one."""
+    kept = node.tip() if blockhash is None else node.kept(digits(blockhash, "blockhash"))
+    return {"hash": show(kept.id), "height": kept.height, "deployments": _deployments(node, kept.height)}
 
 
 @call(GROUP, "txid", "n", "include_mempool", needed=2)
@@ -340,14 +350,14 @@ def scantxoutset(node: Node, action: Any, scanobjects: Any) -> Any:
     if scanobjects is None:
         raise RpcError(MISC_ERROR, "scanobjects argument is required for the start action")
     with node.others():
-        wanted = _wanted(scanobjects)
+        wanted = scanned_scripts(scanobjects)
     best, coins = node.bench.coins()
     tip = node.kept(best)
     with node.others():
         return _scanned(tip, coins, wanted)
 
 
-def _wanted(scanobjects: List[Any]) -> Dict[bytes, str]:
+def scanned_scripts(scanobjects: List[Any]) -> Dict[bytes, str]:
     """The scripts to scan for, each with the first descriptor that names it."""
     found: Dict[bytes, str] = {}
     known: Set[str] = set()

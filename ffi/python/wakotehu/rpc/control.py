@@ -4,7 +4,7 @@ import time
 from typing import Any, Dict, List, Optional, Set, Tuple
 
 from ..version import __version__
-from .errors import INVALID_PARAMETER, MISC_ERROR, P2P_DISABLED, RpcError
+from .errors import INVALID_PARAMETER, INVALID_PARAMS, MISC_ERROR, NODE_NOT_CONNECTED, P2P_DISABLED, RpcError
 from .node import CALLS, Node, call
 from .values import Amount, Object, integer, shortened, text
 
@@ -184,6 +184,30 @@ def addnode(own: Node, node: Any, command: Any) -> None:
     if text(command) not in ("add", "remove", "onetry"):
         raise RpcError(MISC_ERROR, f"{CALLS['addnode'].usage}\n\n{CALLS['addnode'].about}\n")
     raise RpcError(P2P_DISABLED, "Error: Peer-to-peer functionality missing or disabled")
+
+
+@call("Network", "address", "nodeid")
+def disconnectnode(node: Node, address: Any, nodeid: Any) -> None:
+    """Refused: there are no peers."""
+    if address is not None and nodeid is None:
+        text(address)
+    elif nodeid is not None and address in (None, ""):
+        integer(nodeid, 64)
+    else:
+        raise RpcError(INVALID_PARAMS, "Only one of address and nodeid should be provided.")
+    raise RpcError(NODE_NOT_CONNECTED, "Node not found in connected nodes")
+
+
+@call("Hidden")
+def syncwithvalidationinterfacequeue(node: Node) -> None:
+    """Does nothing: what was answered is told to all."""
+
+
+@call("Hidden", "delta_time", needed=1, types=("number",))
+def mockscheduler(node: Node, delta_time: Any) -> None:
+    """Does nothing: there is no work by the clock."""
+    if not 0 < integer(delta_time, 64) <= 3600:
+        raise RpcError(MISC_ERROR, "delta_time must be between 1 and 3600 seconds (1 hr)")
 
 
 @call("Control", "mode")

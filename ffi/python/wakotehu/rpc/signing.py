@@ -7,11 +7,11 @@ from ..chainstate import show
 from ..consensus import Triple
 from ..encoding import Input, Transaction, hash160, operations, push, signature_digest, write_transaction
 from ..signatures import Secp256k1
-from .errors import DESERIALIZATION_ERROR, INVALID_ADDRESS_OR_KEY, INVALID_PARAMETER, MISC_ERROR, TYPE_ERROR, RpcError
+from .errors import DESERIALIZATION_ERROR, INVALID_ADDRESS_OR_KEY, INVALID_PARAMETER, MISC_ERROR, RpcError
 from .node import Node, call
 from .scripts import asm, base58_data, is_script_hash, kind_of, script_keys
 from .txs import GROUP, raw_transaction
-from .values import HASH_TYPES, Object, amount, array, digits, expect_or_null, hex_text, integer, kind_name, text
+from .values import HASH_TYPES, Object, amount, array, digits, expect_member, expect_or_null, hex_text, integer, text
 
 #: The first byte of a private key of regtest.
 SECRET_PREFIX = 239
@@ -74,7 +74,7 @@ def _take_output(given: Any, spent: Dict[Tuple[bytes, int], bytes], redeems: Dic
     if not isinstance(given, dict):
         raise RpcError(DESERIALIZATION_ERROR, 'expected object with {"txid\'","vout","scriptPubKey"}')
     for name, kind in (("scriptPubKey", "string"), ("txid", "string"), ("vout", "number")):
-        _expect_member(given, name, kind)
+        expect_member(given, name, kind)
     id, index = digits(given["txid"], "txid"), integer(given["vout"])
     if index < 0:
         raise RpcError(DESERIALIZATION_ERROR, "vout cannot be negative")
@@ -97,20 +97,12 @@ def _redeem(given: Object) -> bytes:
     """The script of an output to a hash."""
     for name in ("redeemScript", "witnessScript"):
         if given.get(name) is not None:
-            _expect_member(given, name, "string")
+            expect_member(given, name, "string")
     if given.get("witnessScript") is not None:
         return hex_text(given["witnessScript"], "witnessScript")
     if given.get("redeemScript") is None:
         raise RpcError(INVALID_PARAMETER, "Missing redeemScript/witnessScript")
     return hex_text(given["redeemScript"], "redeemScript")
-
-
-def _expect_member(given: Object, name: str, kind: str) -> None:
-    """That a member is there and has a type."""
-    if given.get(name) is None:
-        raise RpcError(TYPE_ERROR, f"Missing {name}")
-    if kind_name(given[name]) != kind:
-        raise RpcError(TYPE_ERROR, f"Expected type {kind} for {name}, got {kind_name(given[name])}")
 
 
 # ---- signing

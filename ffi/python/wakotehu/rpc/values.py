@@ -40,6 +40,14 @@ def expect_or_null(value: Any, kind: str) -> None:
         expect(value, kind)
 
 
+def expect_member(given: Dict[str, Any], name: str, kind: str) -> None:
+    """That a member is there and has a type."""
+    if given.get(name) is None:
+        raise RpcError(TYPE_ERROR, f"Missing {name}")
+    if kind_name(given[name]) != kind:
+        raise RpcError(TYPE_ERROR, f"Expected type {kind} for {name}, got {kind_name(given[name])}")
+
+
 def _wrong(kind: str) -> RpcError:
     return RpcError(MISC_ERROR, f"JSON value is not {kind} as expected")
 

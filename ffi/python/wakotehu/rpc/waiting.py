@@ -1,12 +1,12 @@
 """Calls that show the transactions that wait to be mined."""
 
-from typing import Any, List
+from typing import Any, List, Tuple
 
 from ..chainstate import show
 from ..mempool import Waiting
-from .errors import INVALID_ADDRESS_OR_KEY, INVALID_PARAMETER, RpcError
+from .errors import INVALID_ADDRESS_OR_KEY, INVALID_PARAMETER, TYPE_ERROR, RpcError
 from .node import Node, call
-from .values import Amount, Object, boolean, digits
+from .values import Amount, Object, array, boolean, digits, expect_member, integer, object_of
 
 GROUP = "Blockchain"
 #: What Bitcoin Core asks for at least, in satoshis for 1,000 bytes. Nothing is asked for here.
@@ -117,3 +117,31 @@ def _fields(pool: Waiting, id: bytes) -> Object:
         "bip125-replaceable": pool.is_replaceable(id),
         "unbroadcast": entry.is_sent,
     }
+
+
+@call(GROUP, "outputs", needed=1)
+def gettxspendingprevout(node: Node, outputs: Any) -> List[Object]:
+    """Which of the transactions that wait spends each of some outputs: {"txid", "vout"}."""
+    places = [_place(given) for given in array(outputs)]
+    if not places:
+        raise RpcError(INVALID_PARAMETER, "Invalid parameter, outputs are missing")
+    with node.mempool.read():
+        found = [node.mempool.spenders.get(place) for place in places]
+    return [
+        {"txid": show(id), "vout": index, **({} if spender is None else {"spendingtxid": show(spender)})}
+        for (id, index), spender in zip(places, found)
+    ]
+
+
+def _place(given: Any) -> Tuple[bytes, int]:
+    """An output that is named."""
+    fields = object_of(given)
+    for name, kind in (("txid", "string"), ("vout", "number")):
+        expect_member(fields, name, kind)
+    other = min((name for name in fields if name not in ("txid", "vout")), default=None)
+    if other is not None:
+        raise RpcError(TYPE_ERROR, f"Unexpected key {other[:100]}")
+    id, index = digits(fields["txid"], "txid"), integer(fields["vout"])
+    if index < 0:
+        raise RpcError(INVALID_PARAMETER, "Invalid parameter, vout cannot be negative")
+    return id, index
