@@ -6,7 +6,7 @@ import os
 import subprocess
 
 import running
-from keeping import GENESIS, LOG
+from keeping import GENESIS
 from serving import Served
 from test_spoiled_logs import MARKS, SpoiledTest
 from test_torn_ends import COMMANDS
@@ -41,12 +41,13 @@ class Missing(SpoiledTest):
         files = self.make([])
         table, heights = files["table.txt"], files["heights.txt"]
         other = b"1,2,3,4\n"
-        for left, wanted in (
+        starts: list[tuple[dict[str, bytes], bytes]] = [
             ({}, other), ({"lock": b""}, other), ({"table.txt.new": b"x"}, other), ({"table.txt.new": table, "heights.txt.new": b"1,"}, other),
             ({"table.txt.new": table, "heights.txt.new": heights, "history.log": b""}, heights),
             ({"table.txt": table, "heights.txt.new": heights, "history.log": b""}, heights),
             ({"table.txt.new": table, "heights.txt": heights, "history.log": b""}, heights),
-        ):  # fmt: skip
+        ]  # fmt: skip
+        for left, wanted in starts:
             self.put(left)
             words = ["--heights", "1,2,3,4"] if wanted == other else []
             ended = self.serve(b"", *words)

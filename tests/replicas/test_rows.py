@@ -73,7 +73,7 @@ class Rows(ReplicaTest):
         self.database.run(self.url, INSERT, 3, *BAD[0])
         self.until(lambda: one._state.error is not None)
         told = "the command of place 3 can't be taken"
-        found = [one.status, lambda: self.replica("two"), lambda: one.seat(0).try_mark("precious", GENESIS.id)]
+        found: list[Callable[[], Any]] = [one.status, lambda: self.replica("two"), lambda: one.seat(0).try_mark("precious", GENESIS.id)]
         for call in found:
             error = self.raised(call)
             self.assertIsInstance(error, errors.BadRow)
@@ -88,8 +88,8 @@ class Rows(ReplicaTest):
         self.marked(1)
         self.database.run(self.url, "ALTER TABLE wakotehu.replies DROP CONSTRAINT is_reply")
         self.database.run(self.url, "UPDATE wakotehu.replies SET verdicts = 'valid'")
-        for call in (lambda: str(self.raised(lambda: self.replica("two"))), lambda: self.said("check", self.url)):
-            self.assertIn("the verdicts of place 1 can't be read", call())
+        for told in (str(self.raised(lambda: self.replica("two"))), self.said("check", self.url)):
+            self.assertIn("the verdicts of place 1 can't be read", told)
 
     def test_a_changed_row_is_found(self) -> None:
         """Whatever is changed in it: by `check`, by a new replica, and by one that took it, where it connects again."""
