@@ -70,6 +70,18 @@ class Calls(unittest.TestCase):
         self.assertEqual(self.server.call("getindexinfo"), told)
         self.assertEqual(self.server.call("getindexinfo", "txindex"), {})
 
+    def test_a_block_that_spends_its_own_coin(self):
+        """A kept block's coin, and one of a transaction before it in the same block: the scripts of both are in its filter."""
+        self.server.node.filters = FilterIndex()
+        hashes = self.server.call("generatetodescriptor", 101, "raw(51)")
+        coin = self.server.call("getblock", hashes[0])["tx"][0]
+        for script in (b"\x51\x51", b"\x52"):
+            raw = self.server.call("createrawtransaction", [{"txid": coin, "vout": 0}], [{"data": "00"}])
+            coin = self.server.call("sendrawtransaction", with_outputs(raw, [script]), 0)
+        (id,) = self.server.call("generatetodescriptor", 1, "raw(53)")
+        own = block_filter(bytes.fromhex(id)[::-1], {b"\x53", b"\x51\x51", b"\x52", b"\x51"})
+        self.assertEqual(self.server.call("getblockfilter", id)["filter"], own.hex())
+
 
     def payment(self, height, scripts):
         """A block behind 100 others that spends the coinbase of a height and pays to scripts."""

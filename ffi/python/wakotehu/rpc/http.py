@@ -240,6 +240,7 @@ class Server(socketserver.TCPServer):
         try:
             super().server_bind()
         except OSError as error:
+            host: Any
             host, port = self.server_address[:2]
             raise OSError(error.errno, error.strerror, f"{host}:{port}") from None
 
