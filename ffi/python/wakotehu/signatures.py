@@ -4,7 +4,7 @@ import ctypes
 import ctypes.util
 import os
 import threading
-from typing import Callable, Collection, List, Mapping, Optional, Sequence, Union
+from typing import Any, Callable, Collection, List, Mapping, Optional, Sequence, Union
 
 from . import arguments
 from .arguments import flag, id_of, number, octets, octets_of, sequence
@@ -54,10 +54,22 @@ class Secp256k1:
     def public_key(self, secret: bytes, compressed: bool = True) -> bytes:
         """The key of a secret, to make tests with."""
         secret, compressed = octets_of(secret, 32, "secret"), flag(compressed, "compressed")
-        key, out = ctypes.create_string_buffer(64), ctypes.create_string_buffer(65)
-        length = ctypes.c_size_t(65)
+        key = ctypes.create_string_buffer(64)
         if not self._library.secp256k1_ec_pubkey_create(self._context, key, secret):
             raise ValueError("secret must be a number from 1 to the curve's order less 1")
+        return self._written(key, compressed)
+
+    def tweaked(self, key: bytes, tweak: bytes) -> Optional[bytes]:
+        """A key with the key of a tweak of 32 bytes added, in 33 bytes (BIP 32); None where that is none, or the first isn't."""
+        key, tweak = octets(key, "key"), octets_of(tweak, 32, "tweak")
+        library, context, point = self._library, self._context, ctypes.create_string_buffer(64)
+        if not library.secp256k1_ec_pubkey_parse(context, point, key, ctypes.c_size_t(len(key))):
+            return None
+        return self._written(point, True) if library.secp256k1_ec_pubkey_tweak_add(context, point, tweak) else None
+
+    def _written(self, key: Any, compressed: bool) -> bytes:
+        """A key that the library holds, as bytes."""
+        out, length = ctypes.create_string_buffer(65), ctypes.c_size_t(65)
         # 258: 33 bytes; 2: 65.
         self._library.secp256k1_ec_pubkey_serialize(
             self._context, out, ctypes.byref(length), key, 258 if compressed else 2

@@ -1,7 +1,7 @@
 """Calls that read and mark the chain."""
 
 import time
-from typing import Any, Callable, Dict, List, Optional, Set
+from typing import Any, Callable, Dict, Iterator, List, NamedTuple, Optional, Set, Tuple
 
 from ..chainstate import show
 from ..encoding import block_at_front, double_sha, read_transaction, write_header
@@ -10,7 +10,8 @@ from ..nodebench import Coins
 from .errors import INVALID_ADDRESS_OR_KEY, INVALID_PARAMETER, MISC_ERROR, RpcError
 from .node import Node, call
 from .checksums import checksum
-from .scripts import compact, descriptor_script, shown
+from .descriptors import Script, Underivable, fixed_descriptor, read_descriptor
+from .scripts import compact, shown, without_checksum
 from .txs import transaction_fields
 from .values import Amount, Object, boolean, digits, integer, is_number, shortened, text
 
@@ -306,24 +307,30 @@ def _varint(number: int) -> bytes:
     return bytes(reversed(digits))
 
 
-def _described(given: Any) -> str:
-    """The descriptor of an object to scan for. `range` means nothing for raw and addr, and has to be one."""
+class _Wanted(NamedTuple):
+    """A descriptor to scan for, and the lowest and highest place of its range."""
+
+    text: str
+    low: int = 0
+    high: int = 1000
+
+
+def _described(given: Any) -> _Wanted:
+    """An object to scan for."""
     if isinstance(given, str):
-        return given
+        return _Wanted(given)
     if not isinstance(given, dict):
         raise RpcError(INVALID_PARAMETER, "Scan object needs to be either a string or an object")
     if given.get("desc") is None:
         raise RpcError(INVALID_PARAMETER, "Descriptor needs to be provided in scan object")
     described = text(given["desc"])
-    if given.get("range") is not None:
-        _expect_range(given["range"])
-    return described
+    return _Wanted(described) if given.get("range") is None else _Wanted(described, *_range(given["range"]))
 
 
-def _expect_range(given: Any) -> None:
+def _range(given: Any) -> Tuple[int, int]:
     """As Bitcoin Core's `ParseDescriptorRange`."""
     if type(given) is int and 0 <= given < 1_000_000:
-        return
+        return 0, given
     both = given if isinstance(given, list) else [0, given]
     if len(both) != 2 or not all(map(is_number, both)):
         raise RpcError(INVALID_PARAMETER, "Range must be specified as end or as [begin,end]")
@@ -336,11 +343,12 @@ def _expect_range(given: Any) -> None:
         raise RpcError(INVALID_PARAMETER, "End of range is too high")
     if high >= low + 1_000_000:
         raise RpcError(INVALID_PARAMETER, "Range is too large")
+    return low, high
 
 
 @call(GROUP, "action", "scanobjects", needed=1, types=("string", "array"))
 def scantxoutset(node: Node, action: Any, scanobjects: Any) -> Any:
-    """Finds the coins of descriptors: start with a list of raw(HEX) and addr(ADDRESS); status and abort find no scan."""
+    """Finds the coins of descriptors: start with a list of descriptors; status and abort find no scan."""
     if action == "status":
         return None
     if action == "abort":
@@ -350,23 +358,37 @@ def scantxoutset(node: Node, action: Any, scanobjects: Any) -> Any:
     if scanobjects is None:
         raise RpcError(MISC_ERROR, "scanobjects argument is required for the start action")
     with node.others():
-        wanted = scanned_scripts(scanobjects)
+        wanted = scanned_scripts(node, scanobjects)
     best, coins = node.bench.coins()
     tip = node.kept(best)
     with node.others():
         return _scanned(tip, coins, wanted)
 
 
-def scanned_scripts(scanobjects: List[Any]) -> Dict[bytes, str]:
-    """The scripts to scan for, each with the first descriptor that names it."""
+def scanned_scripts(node: Node, scanobjects: List[Any]) -> Dict[bytes, str]:
+    """The scripts to scan for, each with the first descriptor that names it. The turn isn't held."""
     found: Dict[bytes, str] = {}
-    known: Set[str] = set()
+    known: Set[_Wanted] = set()
     for given in scanobjects:
-        described = _described(given)
-        if described not in known:
-            known.add(described)
-            found.setdefault(descriptor_script(described), described.partition("#")[0])
+        wanted = _described(given)
+        if wanted not in known:
+            known.add(wanted)
+            fixed = fixed_descriptor(wanted.text)
+            for own in _expanded(node, wanted) if fixed is None else (fixed,):
+                found.setdefault(own.code, own.text)
     return found
+
+
+def _expanded(node: Node, wanted: _Wanted) -> Iterator[Script]:
+    """All scripts of a descriptor in a range."""
+    found = read_descriptor(without_checksum(wanted.text))
+    for place in range(wanted.low, wanted.high + 1) if found.is_range else (0,):
+        node.expect_running()
+        try:
+            yield from found.at(place)
+        except Underivable:
+            message = f"Cannot derive script without private keys: '{wanted.text[:200]}'"
+            raise RpcError(INVALID_ADDRESS_OR_KEY, message) from None
 
 
 def _scanned(tip: Kept, coins: Coins, wanted: Dict[bytes, str]) -> Object:

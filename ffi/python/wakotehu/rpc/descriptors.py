@@ -1,20 +1,22 @@
-"""getdescriptorinfo: descriptors as Bitcoin Core 0.21 reads them (doc/descriptors.md)."""
+"""Descriptors as Bitcoin Core 0.21 reads them (doc/descriptors.md), and the scripts that they name."""
 
 import re
+from functools import lru_cache
+from hashlib import sha256
 from itertools import islice
-from typing import Any, List, NamedTuple, Optional, Tuple
+from typing import Any, Callable, List, NamedTuple, Optional, Tuple
 
 from ..addresses import base58
+from ..encoding import hash160, push
+from ..extendedkeys import HARDENED, PUBLIC, ExtendedKey, read_extended
 from ..signatures import Secp256k1
-from .errors import INVALID_ADDRESS_OR_KEY, RpcError
+from .errors import INVALID_ADDRESS_OR_KEY, INVALID_PARAMETER, RpcError
 from .node import Node, call
 from .checksums import checksum
-from .scripts import MOST_KEYS, address_script, base58_data, without_checksum
+from .scripts import MOST_KEYS, address_script, base58_data, fixed_script, without_checksum
 from .signing import read_secret
 from .values import Object, unhexed
 
-#: The first bytes of extended keys of regtest, and how many bytes one has.
-PUBLIC, PRIVATE, EXTENDED = bytes.fromhex("043587cf"), bytes.fromhex("04358394"), 78
 #: An extended key has no more characters. A script of which the hash is spent has no more bytes; a bare one no more keys.
 MAX_EXTENDED, MAX_ELEMENT, MOST_BARE = 120, 520, 3
 
@@ -31,15 +33,112 @@ def _fault(message: str) -> RpcError:
     return RpcError(INVALID_ADDRESS_OR_KEY, message)
 
 
-class _Found(NamedTuple):
-    """A part of a descriptor in its own form, without private keys."""
+class Underivable(Exception):
+    """A key can't be derived without a private one."""
+
+
+class Script(NamedTuple):
+    """A script, and a descriptor of it that names its keys."""
+
+    code: bytes
+    text: str
+
+    @property
+    def hashed(self) -> "Script":
+        """The script to its hash (BIP 16)."""
+        return Script(b"\xa9\x14" + hash160(self.code) + b"\x87", f"sh({self.text})")
+
+    @property
+    def witness(self) -> "Script":
+        """The witness program of its hash (BIP 141)."""
+        return Script(b"\0\x20" + sha256(self.code).digest(), f"wsh({self.text})")
+
+
+class _Derived(NamedTuple):
+    """A key, and where it comes from: the fingerprint of another one and a path."""
+
+    key: bytes
+    fingerprint: str
+    path: str
+
+    @property
+    def text(self) -> str:
+        return f"[{self.fingerprint}{self.path}]{self.key.hex()}"
+
+
+class _Key(NamedTuple):
+    """A key of a descriptor in its own form, without private keys."""
 
     text: str
+    size: int
+    #: The key at a place of its range.
+    at: Callable[[int], _Derived]
+    is_range: bool = False
+    has_private: bool = False
+
+
+class Descriptor(NamedTuple):
+    """A descriptor, or a part of one, in its own form without private keys."""
+
+    text: str
+    #: Its scripts at a place of its range.
+    at: Callable[[int], List[Script]]
     is_range: bool = False
     is_solvable: bool = True
     has_private: bool = False
-    #: How many bytes a key has.
-    size: int = 0
+
+
+@lru_cache(maxsize=None)
+def _secp() -> Secp256k1:
+    """The curve, for all threads."""
+    return Secp256k1()
+
+
+def read_descriptor(text: str) -> Descriptor:
+    """The descriptor of a text without its checksum."""
+    found, rest = _script(_secp(), text, "")
+    if rest:
+        raise _fault("")
+    return found
+
+
+def fixed_descriptor(descriptor: str) -> Optional[Script]:
+    """The script of `raw(HEX)` or `addr(ADDRESS)`, with a right checksum or without one; None for others."""
+    text, mark, check = descriptor.partition("#")
+    code = fixed_script(text)
+    # One that has a script has no character that descriptors have not.
+    return Script(code, text) if code is not None and (not mark or check == checksum(text)) else None
+
+
+def descriptor_script(descriptor: str) -> bytes:
+    """The script of a descriptor without a range; of combo the one that Bitcoin Core mines to."""
+    fixed = fixed_descriptor(descriptor)
+    return _only(read_descriptor(without_checksum(descriptor))) if fixed is None else fixed.code
+
+
+def _only(found: Descriptor) -> bytes:
+    if found.is_range:
+        message = "Ranged descriptor not accepted. Maybe pass through deriveaddresses first?"
+        raise RpcError(INVALID_PARAMETER, message)
+    try:
+        scripts = found.at(0)
+    except Underivable:
+        raise _fault("Cannot derive script without private keys") from None
+    # Of combo to the witness program of the key's hash, if it has one, and else to the key's hash.
+    return scripts[len(scripts) // 2].code
+
+
+def output_script(output: str) -> bytes:
+    """The script of a descriptor, or of an address."""
+    fixed = fixed_descriptor(output)
+    script = address_script(output) if fixed is None else fixed.code
+    if script is not None:
+        return script
+    try:
+        found = read_descriptor(without_checksum(output))
+    except RpcError:
+        raise _fault("Error: Invalid address or descriptor") from None
+    return _only(found)
 
 
 @call("Util", "descriptor", needed=1, types=("string",))
@@ -47,9 +146,7 @@ def getdescriptorinfo(node: Node, descriptor: Any) -> Object:
     """What a descriptor is, with its checksum, and in its own form without private keys."""
     with node.others():
         given = without_checksum(descriptor)
-        found, rest = _script(Secp256k1(), given, "")
-        if rest:
-            raise _fault("")
+        found = read_descriptor(given)
         check = checksum(given)
         own = check if found.text == given else checksum(found.text)
     return {
@@ -84,7 +181,7 @@ def _end(text: str, begin: int = 0) -> int:
     return len(text)
 
 
-def _script(secp: Secp256k1, text: str, within: str) -> Tuple[_Found, str]:
+def _script(secp: Secp256k1, text: str, within: str) -> Tuple[Descriptor, str]:
     """A function, and what is behind it."""
     end = _end(text)
     own, rest = text[:end], text[end:]
@@ -93,16 +190,46 @@ def _script(secp: Secp256k1, text: str, within: str) -> Tuple[_Found, str]:
         raise _fault(_refused(own, name if inner[-1:] == ")" else "", within))
     inner = inner[:-1]
     if name in _KEYS:
-        found = _key(secp, inner, within != "P2WSH" and name != "wpkh")
+        found = _of_key(name, _key(secp, inner, within != "P2WSH" and name != "wpkh"))
     elif name in _MULTI:
-        found = _multi(secp, inner, within)
+        found = _multi(secp, name, inner, within)
     elif name in ("sh", "wsh"):
         found, left = _script(secp, inner, "P2SH" if name == "sh" else "P2WSH")
         if left:
             raise _fault("")
+        found = _of_hash(name, found)
     else:
         found = _fixed(name, inner)
-    return found._replace(text=f"{name}({found.text})"), rest
+    return found, rest
+
+
+def _of_key(name: str, key: _Key) -> Descriptor:
+    """A function of one key."""
+    return Descriptor(
+        f"{name}({key.text})", lambda place: _key_scripts(name, key.at(place)), key.is_range, has_private=key.has_private
+    )
+
+
+def _key_scripts(name: str, own: _Derived) -> List[Script]:
+    digest, text = hash160(own.key), own.text
+    found = {
+        "pk": Script(push(own.key) + b"\xac", f"pk({text})"),
+        "pkh": Script(b"\x76\xa9\x14" + digest + b"\x88\xac", f"pkh({text})"),
+        "wpkh": Script(b"\0\x14" + digest, f"wpkh({text})"),
+    }
+    if name != "combo":
+        return [found[name]]
+    more = [found["wpkh"], found["wpkh"].hashed] if len(own.key) == 33 else []
+    return [found["pk"], found["pkh"], *more]
+
+
+def _of_hash(name: str, inner: Descriptor) -> Descriptor:
+    """A function of the hash of a script."""
+
+    def at(place: int) -> List[Script]:
+        return [script.hashed if name == "sh" else script.witness for script in inner.at(place)]
+
+    return inner._replace(text=f"{name}({inner.text})", at=at)
 
 
 def _refused(own: str, name: str, within: str) -> str:
@@ -114,13 +241,16 @@ def _refused(own: str, name: str, within: str) -> str:
     return f"A function is needed within {within}" if within else f"{own[:200]} is not a valid descriptor function"
 
 
-def _fixed(name: str, inner: str) -> _Found:
+def _fixed(name: str, inner: str) -> Descriptor:
     """An address, or a script's digits."""
-    if name == "addr" and address_script(inner) is None:
+    code = address_script(inner) if name == "addr" else unhexed(inner)
+    if name == "addr" and code is None:
         raise _fault("Address is not valid")
-    if name == "raw" and not unhexed(inner):
+    if not code:
         raise _fault("Raw script is not hex")
-    return _Found(inner.lower() if name == "raw" else inner, is_solvable=False)
+    text = f"{name}({inner.lower() if name == 'raw' else inner})"
+    script = Script(code, f"{name}({inner})")
+    return Descriptor(text, lambda place: [script], is_solvable=False)
 
 
 def _number(word: str) -> Optional[int]:
@@ -132,26 +262,42 @@ def _number(word: str) -> Optional[int]:
     return found if found < 2**32 else None
 
 
-def _multi(secp: Secp256k1, inner: str, within: str) -> _Found:
+def _multi(secp: Secp256k1, name: str, inner: str, within: str) -> Descriptor:
     """How many signatures, and of which keys."""
-    at = _end(inner)
-    needed = _number(inner[:at])
+    end = _end(inner)
+    needed = _number(inner[:end])
     if needed is None:
-        raise _fault(f"Multi threshold '{inner[:at][:100]}' is not valid")
-    keys: List[_Found] = []
-    while at < len(inner):
-        if inner[at] != ",":
-            raise _fault(f"Multi: expected ',', got '{inner[at]}'")
-        begin, at = at + 1, _end(inner, at + 1)
-        keys.append(_key(secp, inner[begin:at], within != "P2WSH"))
+        raise _fault(f"Multi threshold '{inner[:end][:100]}' is not valid")
+    keys: List[_Key] = []
+    while end < len(inner):
+        if inner[end] != ",":
+            raise _fault(f"Multi: expected ',', got '{inner[end]}'")
+        begin, end = end + 1, _end(inner, end + 1)
+        keys.append(_key(secp, inner[begin:end], within != "P2WSH"))
     _expect_few(needed, keys, within)
-    return _Found(
-        ",".join([str(needed), *(key.text for key in keys)]),
+    return _of_multi(name, needed, keys)
+
+
+def _of_multi(name: str, needed: int, keys: List[_Key]) -> Descriptor:
+    """So many signatures of some keys."""
+
+    def at(place: int) -> List[Script]:
+        own = [key.at(place) for key in keys]
+        return [_of_keys(needed, sorted(own) if name == "sortedmulti" else own)]
+
+    return Descriptor(
+        f"{name}({','.join([str(needed), *(key.text for key in keys)])})", at,
         is_range=any(key.is_range for key in keys), has_private=any(key.has_private for key in keys),
     )  # fmt: skip
 
 
-def _expect_few(needed: int, keys: List[_Found], within: str) -> None:
+def _of_keys(needed: int, keys: List[_Derived]) -> Script:
+    """The script that asks for so many signatures of keys."""
+    code = b"".join([bytes([0x50 + needed]), *(push(own.key) for own in keys), bytes([0x50 + len(keys)]), b"\xae"])
+    return Script(code, f"multi({','.join([str(needed), *(own.text for own in keys)])})")
+
+
+def _expect_few(needed: int, keys: List[_Key], within: str) -> None:
     """That so many keys may stand in a script."""
     size = sum(key.size + 1 for key in keys) + 3
     if not 1 <= len(keys) <= MOST_KEYS:
@@ -172,7 +318,7 @@ def _expect_few(needed: int, keys: List[_Found], within: str) -> None:
 # ---- keys
 
 
-def _key(secp: Secp256k1, text: str, uncompressed: bool) -> _Found:
+def _key(secp: Secp256k1, text: str, uncompressed: bool) -> _Key:
     """A key, with where it comes from before it."""
     parts = text.split("]", 2)
     if len(parts) > 2:
@@ -181,17 +327,22 @@ def _key(secp: Secp256k1, text: str, uncompressed: bool) -> _Found:
         return _bare_key(secp, text, uncompressed)
     if parts[0][:1] != "[":
         raise _fault(f"Key origin start '[ character expected but not found, got '{parts[0][:1] or ']'}' instead")
-    print_of, *steps = parts[0][1:].split("/")
-    if len(print_of) != 8:
-        raise _fault(f"Fingerprint is not 4 bytes ({len(print_of)} characters instead of 8 characters)")
-    if not re.fullmatch("[0-9a-fA-F]{8}", print_of):
-        raise _fault(f"Fingerprint '{print_of}' is not hex")
-    origin = f"[{print_of.lower()}{_path(steps)}]"
+    fingerprint, *steps = parts[0][1:].split("/")
+    if len(fingerprint) != 8:
+        raise _fault(f"Fingerprint is not 4 bytes ({len(fingerprint)} characters instead of 8 characters)")
+    if not re.fullmatch("[0-9a-fA-F]{8}", fingerprint):
+        raise _fault(f"Fingerprint '{fingerprint}' is not hex")
+    fingerprint, path = fingerprint.lower(), _shown(_path(steps))
     found = _bare_key(secp, parts[1], uncompressed)
-    return found._replace(text=origin + found.text)
+
+    def at(place: int) -> _Derived:
+        own = found.at(place)
+        return _Derived(own.key, fingerprint, path + own.path)
+
+    return found._replace(text=f"[{fingerprint}{path}]{found.text}", at=at)
 
 
-def _path(steps: List[str]) -> str:
+def _path(steps: List[str]) -> List[int]:
     """A path of numbers, each hardened or not."""
     found = []
     for step in steps:
@@ -199,13 +350,17 @@ def _path(steps: List[str]) -> str:
         number = _number(step[:-1] if hard else step)
         if number is None:
             raise _fault(f"Key path value '{(step[:-1] if hard else step)[:100]}' is not a valid uint32")
-        if number > 0x7FFFFFFF:
+        if number >= HARDENED:
             raise _fault(f"Key path value {number} is out of range")
-        found.append(f"/{number}" + "'" * hard)
-    return "".join(found)
+        found.append(number + HARDENED * hard)
+    return found
 
 
-def _bare_key(secp: Secp256k1, text: str, uncompressed: bool) -> _Found:
+def _shown(path: List[int]) -> str:
+    return "".join(f"/{number % HARDENED}" + "'" * (number >= HARDENED) for number in path)
+
+
+def _bare_key(secp: Secp256k1, text: str, uncompressed: bool) -> _Key:
     """A key as digits, a private key as wallets write it, or an extended one with a path."""
     word, *steps = text.split("/")
     if not word:
@@ -214,16 +369,45 @@ def _bare_key(secp: Secp256k1, text: str, uncompressed: bool) -> _Found:
     if key is not None:
         if len(key) != 33 and not uncompressed:
             raise _fault("Uncompressed keys are not allowed")
-        return _Found(key.hex(), has_private=is_private, size=len(key))
+        own = _Derived(key, hash160(key)[:4].hex(), "")
+        return _Key(key.hex(), len(key), lambda place: own, has_private=is_private)
     data = base58_data(word, MAX_EXTENDED) or b""
-    if len(data) != EXTENDED or data[:4] not in (PUBLIC, PRIVATE):
+    root = read_extended(secp, data)
+    if root is None:
         raise _fault(f"key '{word[:200]}' is not valid")
-    is_private = data[:4] == PRIVATE
-    if is_private:
-        data = PUBLIC + data[4:45] + secp.public_key(data[46:])
     last = steps.pop() if steps and steps[-1] in ("*", "*'", "*h") else ""
+    branch = _Branch(secp, root, _path(steps), last)
     end = "" if not last else "/*" + "'" * (last != "*")
-    return _Found(base58(data) + _path(steps) + end, is_range=bool(last), has_private=is_private, size=33)
+    text = base58(PUBLIC + data[4:45] + root.key) + _shown(branch.path) + end
+    return _Key(text, 33, branch.at, is_range=bool(last), has_private=root.secret is not None)
+
+
+class _Branch:
+    """The keys of an extended key by a path, and by a place behind it where last is `*`, `*'` or `*h`."""
+
+    def __init__(self, secp: Secp256k1, root: ExtendedKey, path: List[int], last: str) -> None:
+        self._secp = secp
+        self._root = root
+        self.path = path
+        self._last = last
+        #: The key of the path, once it was asked for.
+        self._parent: Optional[ExtendedKey] = None
+
+    def at(self, place: int) -> _Derived:
+        """The key at a place."""
+        if self._parent is None:
+            self._parent = self._reached(self._root, self.path)
+        more = [place + HARDENED * (self._last != "*")] if self._last else []
+        own = self._reached(self._parent, more)
+        return _Derived(own.key, self._root.fingerprint.hex(), _shown(self.path + more))
+
+    def _reached(self, key: ExtendedKey, path: List[int]) -> ExtendedKey:
+        for number in path:
+            found = key.child(self._secp, number)
+            if found is None:
+                raise Underivable
+            key = found
+        return key
 
 
 def _plain_key(secp: Secp256k1, word: str) -> Tuple[Optional[bytes], bool]:

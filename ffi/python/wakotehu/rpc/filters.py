@@ -97,7 +97,7 @@ def getblockfilter(node: Node, blockhash: Any, filtertype: Any) -> Object:
 def scanblocks(
     node: Node, action: Any, scanobjects: Any, start_height: Any, stop_height: Any, filtertype: Any, options: Any
 ) -> Any:
-    """Finds the active blocks whose filters have scripts of descriptors: start with a list of raw(HEX) and addr(ADDRESS), by
+    """Finds the active blocks whose filters have scripts of descriptors: start with a list of descriptors, by
     {"filter_false_positives": true} only those that have one; status tells of a scan that runs, abort ends it."""
     scan = None if node.filters is None else node.filters.scan
     if action == "status":
@@ -115,7 +115,7 @@ def scanblocks(
     index.scan = scan = _scan(node, start_height, stop_height)
     try:
         with node.others():
-            wanted = set(scanned_scripts(array(scanobjects)))
+            wanted = set(scanned_scripts(node, array(scanobjects)))
         found = _scanned(node, index, scan, wanted, is_exact)
     finally:
         index.scan = None

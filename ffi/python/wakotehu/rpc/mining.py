@@ -15,7 +15,8 @@ from .errors import (
     DESERIALIZATION_ERROR, INVALID_ADDRESS_OR_KEY, METHOD_NOT_FOUND, MISC_ERROR, VERIFY_ERROR, RpcError,
 )  # fmt: skip
 from .node import Node, call
-from .scripts import address_script, descriptor_script, output_script
+from .descriptors import descriptor_script, output_script
+from .scripts import address_script
 from .txs import MAX_SIZE, Raw, raw_transaction
 from .values import MAX_MONEY, Object, array, boolean, digits, hexadecimal, integer, text
 
@@ -167,7 +168,7 @@ def generatetoaddress(node: Node, nblocks: Any, address: Any, maxtries: Any) -> 
 
 @call(GENERATING, "num_blocks", "descriptor", "maxtries", needed=2)
 def generatetodescriptor(node: Node, num_blocks: Any, descriptor: Any, maxtries: Any) -> List[str]:
-    """Makes blocks that pay to raw(HEX) or addr(ADDRESS)."""
+    """Makes blocks that pay to a descriptor."""
     count, tries = integer(num_blocks), _tries(maxtries)
     with node.others():
         script = descriptor_script(text(descriptor))

@@ -18,7 +18,8 @@ from .errors import INVALID_ADDRESS_OR_KEY, METHOD_NOT_FOUND, RpcError
 from .jsonrpc import written
 from .node import Call, Node, run
 from .outlines import outlines
-from .scripts import asm, kind_of, output_script
+from .descriptors import output_script
+from .scripts import asm, kind_of
 from .txs import active_block
 from .values import Object, digits
 

@@ -204,22 +204,7 @@ def base58_data(text: str, most: int = MAX_ADDRESS) -> Optional[bytes]:
     return data_of(text.encode().strip(_SPACES).decode(), most) if text.isascii() else None
 
 
-def descriptor_script(descriptor: str) -> bytes:
-    """The script of `raw(HEX)` or `addr(ADDRESS)`, with or without a checksum."""
-    text, mark, check = descriptor.partition("#")
-    script = _fixed_script(text)
-    # One that has a script has no character that descriptors have not.
-    if script is not None and (not mark or check == checksum(text)):
-        return script
-    text = without_checksum(descriptor)
-    if text[:4] == "raw(" and text[-1:] == ")":
-        raise RpcError(INVALID_ADDRESS_OR_KEY, "Raw script is not hex")
-    if text[:5] == "addr(" and text[-1:] == ")":
-        raise RpcError(INVALID_ADDRESS_OR_KEY, "Address is not valid")
-    raise RpcError(INVALID_ADDRESS_OR_KEY, f"{text[:100]} is not a valid descriptor function")
-
-
-def _fixed_script(text: str) -> Optional[bytes]:
+def fixed_script(text: str) -> Optional[bytes]:
     """The script of `raw(HEX)` or `addr(ADDRESS)`, or None."""
     if text[-1:] != ")":
         return None
@@ -244,11 +229,3 @@ def without_checksum(descriptor: str) -> str:
         message = f"Provided checksum '{checks[0]}' does not match computed checksum '{computed}'"
         raise RpcError(INVALID_ADDRESS_OR_KEY, message)
     return text
-
-
-def output_script(output: str) -> bytes:
-    """The script of a descriptor, or of an address."""
-    try:
-        return address_script(output) or descriptor_script(output)
-    except RpcError:
-        raise RpcError(INVALID_ADDRESS_OR_KEY, "Error: Invalid address or descriptor")
