@@ -13,7 +13,7 @@ from ..signatures import Secp256k1
 from .errors import INVALID_ADDRESS_OR_KEY, INVALID_PARAMETER, RpcError
 from .node import Node, call
 from .checksums import checksum
-from .scripts import MOST_KEYS, address_script, base58_data, fixed_script, without_checksum
+from .scripts import MAX_RAW, MOST_KEYS, address_script, base58_data, fixed_script, without_checksum
 from .signing import read_secret
 from .values import Object, unhexed
 
@@ -125,7 +125,10 @@ def _only(found: Descriptor) -> bytes:
     except Underivable:
         raise _fault("Cannot derive script without private keys") from None
     # Of combo to the witness program of the key's hash, if it has one, and else to the key's hash.
-    return scripts[len(scripts) // 2].code
+    code = scripts[len(scripts) // 2].code
+    if len(code) > MAX_RAW // 2:
+        raise _fault(f"Script has more than {MAX_RAW // 2} bytes")
+    return code
 
 
 def output_script(output: str) -> bytes:
