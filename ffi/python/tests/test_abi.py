@@ -17,7 +17,7 @@ RIGHT: Dict[str, List[Tuple[str, str, str]]] = {
         ("include/wakotehu.h", "int64_t wakotehu_subsidy(", "int wakotehu_more(void);\nint64_t wakotehu_subsidy("),
         ("c/rules.c", "int64_t wakotehu_subsidy(", "int wakotehu_more(void) { return 1; }\nint64_t wakotehu_subsidy("),
     ],
-    "a code more": [("include/wakotehu.h", "WAKOTEHU_WANTS = 31 ", "WAKOTEHU_MORE = 32, WAKOTEHU_WANTS = 31 ")],
+    "a code more": [("include/wakotehu.h", "WAKOTEHU_WANTS = 31,", "WAKOTEHU_MORE = 33, WAKOTEHU_WANTS = 31,")],
     "another body": [("c/rules.c", "return ffi_subsidy(height);", "return ffi_subsidy(height + 0);")],
 }
 WRONG: Dict[str, List[Tuple[str, str, str]]] = {

@@ -346,8 +346,8 @@ ROWS = [
 #: Modules that are no part of this: what takes the arguments, exceptions, what a server has, and what it is started by; what
 #: needs a database (tests/replicas has its arguments); what pytest calls (test_testing has its own).
 OTHER = {
-    "ahead", "arguments", "asyncreplica", "benches", "errors", "explain", "following", "history", "index", "mempool", "nodebench", "pipe",
-    "processor", "replica", "replicabench", "replicacommand", "replicalog", "replication", "server", "stage", "testing", "vectors",
+    "ahead", "arguments", "asyncreplica", "benches", "errors", "explain", "filters", "following", "history", "index", "mempool", "nodebench",
+    "pipe", "processor", "replica", "replicabench", "replicacommand", "replicalog", "replication", "server", "stage", "testing", "vectors",
     "version", "__main__",
 }  # fmt: skip
 #: What other modules of the package call with what was taken before.
