@@ -47,7 +47,7 @@ For more information, try '--help'.
     (
         "--version",
         """\
-regchain 0.1.0 (rattle-kit-13 logic dac8208d650f15bf)
+regchain 0.2 (rattle-kit-13f logic dac8208d650f15bf)
 """,
     ),
     (

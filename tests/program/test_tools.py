@@ -65,7 +65,10 @@ class Needs(unittest.TestCase):
             subprocess.run(["git", "-C", ROOT, "checkout-index", "-a", f"--prefix={room}/"], check=True)
             see = [f"{room}/tools/version.py"]
             self.assertEqual(subprocess.run(see).returncode, 0)
-            for path in ("crates/console/src/options.rt", "crates/gated/stdout", "ffi/include/wakotehu.h", "README.md", "VERSION"):
+            for path in (
+                "crates/console/src/options.rt", "crates/gated/stdout", "tests/program/test_command_line.py",
+                "ffi/include/wakotehu.h", "README.md", "VERSION",
+            ):  # fmt: skip
                 with open(f"{room}/{path}", encoding="utf-8") as file:
                     text = file.read()
                 with open(f"{room}/{path}", "w", encoding="utf-8") as file:
