@@ -92,6 +92,22 @@ def asked(call):
     return found
 
 
+def derived(call):
+    """Which scripts the addresses of descriptors have, of places 0 to 2 where they have a range."""
+    found = []
+    for descriptor in DESCRIPTORS:
+        told = answer(call, "getdescriptorinfo", descriptor)
+        if isinstance(told, str):
+            continue
+        own = f"{descriptor.partition('#')[0]}#{told['checksum']}"
+        for more in ((), (2,), ([1, 2],), (None,)):
+            addresses = answer(call, "deriveaddresses", own, *more)
+            if not isinstance(addresses, str):
+                addresses = [call("validateaddress", address)["scriptPubKey"] for address in addresses]
+            found.append((f"{descriptor} {more}", addresses))
+    return found
+
+
 class CallsOfDescriptorsTest(CallsTest):
     def test_faults(self):
         """In Bitcoin Core's words (src/rpc/util.cpp and mining.cpp)."""
@@ -103,6 +119,21 @@ class CallsOfDescriptorsTest(CallsTest):
             (("scantxoutset", "start", [f"pkh({XPUB}/1h)"]), -5, f"Cannot derive script without private keys: 'pkh({XPUB}/1h)'"),
         ):  # fmt: skip
             error = self.call(*words)
+            self.assertEqual((error["code"], error["message"]), (code, message), words)
+
+    def test_faults_of_deriveaddresses(self):
+        """In Bitcoin Core's words (src/rpc/misc.cpp)."""
+        def marked(descriptor):
+            return f"{descriptor}#{self.call('getdescriptorinfo', descriptor)['checksum']}"
+
+        for words, code, message in (
+            ((f"pkh({ONE})",), -5, "Missing checksum"), ((5,), -3, "Expected type string, got number"),
+            ((marked(f"pkh({ONE})"), 1), -8, "Range should not be specified for an un-ranged descriptor"),
+            ((marked(f"pkh({XPUB}/*)"),), -8, "Range must be specified for a ranged descriptor"),
+            ((marked(f"pkh({XPUB}/*)"), [2, 1]), -8, "Range specified as [begin,end] must not have begin after end"),
+            ((marked(f"multi(1,{ONE})"),), -5, "Descriptor does not have a corresponding address"),
+        ):  # fmt: skip
+            error = self.call("deriveaddresses", *words)
             self.assertEqual((error["code"], error["message"]), (code, message), words)
 
     def test_a_range_of_many(self):
@@ -123,11 +154,20 @@ class BesideLitecoindTest(unittest.TestCase):
         self.addCleanup(server.stop)
         with peers.Litecoind() as peer:
             ours, theirs = asked(server.call), asked(lambda *words: coded(peer.call(*words)))
-        self.assertEqual(len(ours), len(theirs))
+            addresses, others = derived(server.call), derived(lambda *words: coded(peer.call(*words)))
+        self.assertEqual([what for what, _ in ours + addresses], [what for what, _ in theirs + others])
         for (what, own), (_, other) in zip(ours, theirs):
             with self.subTest(what):
                 self.assertEqual(own, other)
+        for (what, own), (_, other) in zip(addresses, others):
+            # Ours has no addresses of witness programs.
+            with self.subTest(what):
+                self.assertEqual(own, "error -5" if has_witness(other) else other)
         self.assertGreater(sum(isinstance(own, list) and bool(own) for _, own in ours), 50)
+
+
+def has_witness(scripts):
+    return isinstance(scripts, list) and any(script[:4] in ("0014", "0020") for script in scripts)
 
 
 def coded(found):

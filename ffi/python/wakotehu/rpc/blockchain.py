@@ -1,7 +1,7 @@
 """Calls that read and mark the chain."""
 
 import time
-from typing import Any, Callable, Dict, Iterator, List, NamedTuple, Optional, Set, Tuple
+from typing import Any, Callable, Dict, Iterator, List, NamedTuple, Optional, Set
 
 from ..chainstate import show
 from ..encoding import block_at_front, double_sha, read_transaction, write_header
@@ -10,7 +10,7 @@ from ..nodebench import Coins
 from .errors import INVALID_ADDRESS_OR_KEY, INVALID_PARAMETER, MISC_ERROR, RpcError
 from .node import Node, call
 from .checksums import checksum
-from .descriptors import Script, Underivable, fixed_descriptor, read_descriptor
+from .descriptors import Script, Underivable, descriptor_range, fixed_descriptor, read_descriptor
 from .scripts import compact, shown, without_checksum
 from .txs import transaction_fields
 from .values import Amount, Object, boolean, digits, integer, is_number, shortened, text
@@ -324,26 +324,7 @@ def _described(given: Any) -> _Wanted:
     if given.get("desc") is None:
         raise RpcError(INVALID_PARAMETER, "Descriptor needs to be provided in scan object")
     described = text(given["desc"])
-    return _Wanted(described) if given.get("range") is None else _Wanted(described, *_range(given["range"]))
-
-
-def _range(given: Any) -> Tuple[int, int]:
-    """As Bitcoin Core's `ParseDescriptorRange`."""
-    if type(given) is int and 0 <= given < 1_000_000:
-        return 0, given
-    both = given if isinstance(given, list) else [0, given]
-    if len(both) != 2 or not all(map(is_number, both)):
-        raise RpcError(INVALID_PARAMETER, "Range must be specified as end or as [begin,end]")
-    low, high = (integer(it, 64) for it in both)
-    if low > high and isinstance(given, list):
-        raise RpcError(INVALID_PARAMETER, "Range specified as [begin,end] must not have begin after end")
-    if low < 0:
-        raise RpcError(INVALID_PARAMETER, "Range should be greater or equal than 0")
-    if not 0 <= high < 2**31:
-        raise RpcError(INVALID_PARAMETER, "End of range is too high")
-    if high >= low + 1_000_000:
-        raise RpcError(INVALID_PARAMETER, "Range is too large")
-    return low, high
+    return _Wanted(described) if given.get("range") is None else _Wanted(described, *descriptor_range(given["range"]))
 
 
 @call(GROUP, "action", "scanobjects", needed=1, types=("string", "array"))

@@ -6,16 +6,16 @@ from hashlib import sha256
 from itertools import islice
 from typing import Any, Callable, List, NamedTuple, Optional, Tuple
 
-from ..addresses import base58
+from ..addresses import base58, spelled
 from ..encoding import hash160, push
 from ..extendedkeys import HARDENED, PUBLIC, ExtendedKey, read_extended
 from ..signatures import Secp256k1
 from .errors import INVALID_ADDRESS_OR_KEY, INVALID_PARAMETER, RpcError
 from .node import Node, call
 from .checksums import checksum
-from .scripts import MAX_RAW, MOST_KEYS, address_script, base58_data, fixed_script, without_checksum
+from .scripts import KEY_PREFIX, MAX_RAW, MOST_KEYS, address_script, base58_data, fixed_script, kind_of, without_checksum
 from .signing import read_secret
-from .values import Object, unhexed
+from .values import Object, integer, is_number, unhexed
 
 #: An extended key has no more characters. A script of which the hash is spent has no more bytes; a bare one no more keys.
 MAX_EXTENDED, MAX_ELEMENT, MOST_BARE = 120, 520, 3
@@ -159,6 +159,58 @@ def getdescriptorinfo(node: Node, descriptor: Any) -> Object:
         "issolvable": found.is_solvable,
         "hasprivatekeys": found.has_private,
     }
+
+
+def descriptor_range(given: Any) -> Tuple[int, int]:
+    """The lowest and highest place of a range (Bitcoin Core's `ParseDescriptorRange`)."""
+    if type(given) is int and 0 <= given < 1_000_000:
+        return 0, given
+    both = given if isinstance(given, list) else [0, given]
+    if len(both) != 2 or not all(map(is_number, both)):
+        raise RpcError(INVALID_PARAMETER, "Range must be specified as end or as [begin,end]")
+    low, high = (integer(it, 64) for it in both)
+    if low > high and isinstance(given, list):
+        raise RpcError(INVALID_PARAMETER, "Range specified as [begin,end] must not have begin after end")
+    if low < 0:
+        raise RpcError(INVALID_PARAMETER, "Range should be greater or equal than 0")
+    if not 0 <= high < 2**31:
+        raise RpcError(INVALID_PARAMETER, "End of range is too high")
+    if high >= low + 1_000_000:
+        raise RpcError(INVALID_PARAMETER, "Range is too large")
+    return low, high
+
+
+@call("Util", "descriptor", "range", needed=1, types=("string",), padded=False)
+def deriveaddresses(node: Node, descriptor: Any, *range_given: Any) -> List[str]:
+    """The addresses of a descriptor with its checksum, at the places of a range where it has one: an end, or [begin,end]."""
+    low, high = descriptor_range(range_given[0]) if range_given and range_given[0] is not None else (0, 0)
+    with node.others():
+        text = without_checksum(descriptor)
+        if "#" not in descriptor:
+            raise _fault("Missing checksum")
+        found = read_descriptor(text)
+        if bool(range_given) != found.is_range:
+            words = "must be specified for a ranged" if found.is_range else "should not be specified for an un-ranged"
+            raise RpcError(INVALID_PARAMETER, f"Range {words} descriptor")
+        return [_address(script) for place in range(low, high + 1) for script in _at(node, found, place)]
+
+
+def _at(node: Node, found: Descriptor, place: int) -> List[Script]:
+    node.expect_running()
+    try:
+        return found.at(place)
+    except Underivable:
+        raise _fault("Cannot derive script without private keys") from None
+
+
+def _address(script: Script) -> str:
+    """The address of a script; a key's is that of its hash (Bitcoin Core's `ExtractDestination`)."""
+    kind, _, addresses = kind_of(script.code)
+    if kind == "pubkey":
+        return spelled(KEY_PREFIX, hash160(script.code[1:-1]))
+    if kind not in ("pubkeyhash", "scripthash"):
+        raise _fault("Descriptor does not have a corresponding address")
+    return addresses[0]
 
 
 _MARKS = re.compile("[(),]")
