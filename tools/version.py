@@ -22,6 +22,7 @@ def places(version: str, kit: str, logic: str) -> Iterator[Tuple[str, str, str]]
     major, minor = version.split(".")
     yield "crates/console/src/options.rt", r'pub const VERSION: &str = "(.*)";', f"{version} ({kit} logic {logic})"
     yield "crates/gated/stdout", r"^regchain (.*)$", f"{version} ({kit} logic {logic})"
+    yield "crates/gated/stdout", r"^out (.*)$", str(len(f"regchain {version} ({kit} logic {logic})\n"))
     yield "tests/program/test_command_line.py", r"^regchain (.* logic .*)$", f"{version} ({kit} logic {logic})"
     yield "ffi/include/wakotehu.h", r"^#define WAKOTEHU_VERSION_MAJOR (.*)$", major
     yield "ffi/include/wakotehu.h", r"^#define WAKOTEHU_VERSION_MINOR (.*)$", minor
