@@ -322,7 +322,7 @@ ROWS = [
     row("signatures.Secp256k1.public_key", secret=("secret", SECRET), compressed=("flag", True)),
     row("signatures.Secp256k1.sign", secret=("secret", SECRET), digest=ID),
     row("signatures.Secp256k1.sign_short", secret=("secret", SECRET), digest=ID),
-    row("signatures.Secp256k1.is_key", key=("bytes", b"")),
+    row("signatures.Secp256k1.is_key", key=("bytes", b"")), row("signatures.Secp256k1.tweaked", key=("bytes", b""), tweak=ID),
     row("signatures.Verifier", threads=("threads", 1)),
     row("signatures.Verifier.verdicts", lines=("list of lines", [TRIPLE.line])), row("signatures.processors"),
     row("signatures.read_signature", data=("bytes", b"")),
@@ -346,8 +346,8 @@ ROWS = [
 #: Modules that are no part of this: what takes the arguments, exceptions, what a server has, and what it is started by; what
 #: needs a database (tests/replicas has its arguments); what pytest calls (test_testing has its own).
 OTHER = {
-    "ahead", "arguments", "asyncreplica", "benches", "errors", "explain", "filters", "following", "history", "index", "mempool", "nodebench",
-    "pipe", "processor", "replica", "replicabench", "replicacommand", "replicalog", "replication", "server", "stage", "testing", "vectors",
+    "ahead", "arguments", "asyncreplica", "benches", "errors", "explain", "extendedkeys", "filters", "following", "history", "index", "mempool",
+    "nodebench", "pipe", "processor", "replica", "replicabench", "replicacommand", "replicalog", "replication", "server", "stage", "testing", "vectors",
     "version", "__main__",
 }  # fmt: skip
 #: What other modules of the package call with what was taken before.
