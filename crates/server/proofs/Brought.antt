@@ -97,9 +97,10 @@ pub begins_all : {A : Type 0} (xs ys zs : List A) → IsPrefix xs ys → IsPrefi
 begins_all xs ys zs p q = (p.0 ++ q.0, sym (append_assoc xs p.0 q.0) ∙ ap (λ (l : List _). l ++ q.0) p.1 ∙ q.1)
 
 -- a read of a seat that had heard something before
-pub read_from : (p heard q : Pass) (at : ℕ) (best : Id) → heard.origin ≡ p.origin → heard.mine ≡ p.mine → IsRead heard q (best_in heard.origin) at best → IsRead p q (best_in p.origin) at best
-read_from p heard q at best same mine read = record {
+pub read_from : (p heard q : Pass) (at : ℕ) (best : Id) → heard.origin ≡ p.origin → heard.mine ≡ p.mine → heard.wants ≡ p.wants → IsRead heard q (best_in heard.origin) at best → IsRead p q (best_in p.origin) at best
+read_from p heard q at best same mine wants read = record {
   at_is = read.at_is;
   value_is = subst (λ (o : Origin). Under (known_in o q.seen) (λ valid. best ≡ best_in o valid (state_at (machine o valid) q.seen at))) same read.value_is;
   mine_is = read.mine_is ∙ mine;
+  wants_is = read.wants_is ∙ wants;
 }

@@ -91,6 +91,7 @@ impl<J: Naming> Blocks<J> {
     fn tell(&self, seat: &mut Seat<'_, J>)
         ensures later { IsLater seat.old seat.new }
         ensures mine { seat.new.mine ≡ seat.old.mine }
+        ensures wants { seat.new.wants ≡ seat.old.wants }
         ensures seen { IsPrefix self.now.seen seat.new.seen }
     {
         match &self.note {

@@ -33,7 +33,7 @@ use Rattle.node.specs.declared.answer.UnspentOutput.{UnspentOutput}
 use Rattle.node.specs.declared.fault.Fault.{Fault}
 use Rattle.node.specs.declared.fault.Fault.TheVariants.{Memory, Owed, Closed, Unknown}
 use Rattle.node.specs.Calls.{IsSubmitAnswer, IsWriteFault, IsJudgeFault, IsReadFault, IsClosedFault}
-use Rattle.node.specs.Pass.{Pass, IsLater, IsWrite, IsRead, IsListed, AreCoins}
+use Rattle.node.specs.Pass.{Pass, settled, IsLater, IsWrite, IsRead, IsListed, AreCoins}
 use Rattle.node.specs.Told.{best_in, output_at, reply_to, shown_tips, undo_in}
 use Rattle.serving.specs.Answers.{contradicted_members, text, count, line_of, response, refusal_members, tip_items, wants_members}
 use Rattle.serving.specs.declared.refusal.Refusal.{Refusal}
@@ -136,7 +136,7 @@ pub record IsTooLong (block : List ℕ) (i : RequestId) (p q : Pass) (line : Lis
 
 -- the reply that a submission would get, after all that the seat has then seen; no step is taken
 abbrev pub IsJudged : Pass → Pass → List ℕ → ℕ → ℕ → SubmitReply → Type 0
-IsJudged p q block now at r = IsRead p q (reply_to p.origin (command.Submit block now)) at (reply.Submit r)
+IsJudged p q block now at r = IsRead (settled p) q (reply_to p.origin (command.Submit block now)) at (reply.Submit r)
 
 -- the history has no more room for submissions that aren't kept, and this one wouldn't be
 pub record IsHistoryFull (p q : Pass) (block : List ℕ) (now : ℕ) (i : RequestId) (line : List ℕ) : Type 0 where

@@ -17,7 +17,7 @@ returns-clause-looked g c =
       moment = m;
       after = begins_all p.seen heard.seen m.seen c.tell.ensures.later.grows c.getbestblockhash.ensures.later.grows;
       before = c.journal.ensures.later.grows;
-      best_is = read_from p heard m c.in_ok-best.best.at c.in_ok-best.best.value c.tell.ensures.later.origin c.tell.ensures.mine read;
+      best_is = read_from p heard m c.in_ok-best.best.at c.in_ok-best.best.value c.tell.ensures.later.origin c.tell.ensures.mine c.tell.ensures.wants read;
       blocks_are = subst (λ (l : List Entry). AreBrought [] l c.add_all.new.self.blocks) seen c.in_ok-add_all.ensures.1;
       mine_is = c.in_ok-found.ensures.answer.mine_is ∙ read.mine_is ∙ c.tell.ensures.mine;
     }
