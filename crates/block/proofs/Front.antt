@@ -6,7 +6,7 @@ use Rattle.wire.specs.declared.fault.WireFault.{WireFault}
 use Rattle.wire.specs.Grammar.{IsBytes}
 use Rattle.wire.specs.computed.Reader.{◌>>=◌, Gives, counted_at}
 use Rattle.wire.specs.laws.Reader.{found_law, refused_law}
-use Rattle.txn.specs.declared.tx.Tx.{Tx}
+use Rattle.txn.specs.Tx.{Tx}
 use Rattle.txn.specs.computed.Reader.{tx_at}
 use Rattle.block.specs.declared.header.Header.{Header}
 use Rattle.block.specs.declared.block.Block.{Block}

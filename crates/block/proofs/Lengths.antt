@@ -7,7 +7,7 @@ use Rattle.wire.specs.Grammar.{sized_bytes, counted_list}
 use Rattle.byteorder.specs.Endian.{little_bytes}
 use Rattle.txn.specs.declared.input.TxIn.{TxIn}
 use Rattle.txn.specs.declared.output.TxOut.{TxOut}
-use Rattle.txn.specs.declared.tx.Tx.{Tx}
+use Rattle.txn.specs.Tx.{Tx}
 use Rattle.txn.specs.Grammar.{input, output, transaction}
 use Rattle.block.specs.declared.header.Header.{Header}
 use Rattle.block.specs.declared.block.Block.{Block}

@@ -3,7 +3,7 @@ use Rattle.std.specs.Prelude.{◌==◌, ◌&&◌, Bool, List}
 use Rattle.std.specs.Ordering.{int_eq}
 use lib.Pointwise.{pointwise}
 use Rattle.hash.specs.Id.{same_id}
-use Rattle.txn.specs.declared.tx.Tx.{Tx}
+use Rattle.txn.specs.Tx.{Tx}
 use Rattle.txn.specs.Equality.{same_tx}
 use Rattle.block.specs.declared.header.Header.{Header}
 use Rattle.block.specs.declared.block.Block.{Block}

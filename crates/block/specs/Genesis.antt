@@ -1,7 +1,7 @@
 -- The genesis block of regtest (Bitcoin Core's `CreateGenesisBlock`).
 use Rattle.std.specs.Prelude.{◌++◌, ℕ, List, [], ◌∷◌, length, pos, codes, replicate, reverse}
 use Rattle.hash.specs.declared.id.Id.{Id}
-use Rattle.txn.specs.declared.tx.Tx.{Tx}
+use Rattle.txn.specs.Tx.{Tx}
 use Rattle.txn.specs.Coinbase.{null}
 use Rattle.block.specs.declared.header.Header.{Header}
 use Rattle.block.specs.declared.block.Block.{Block}
@@ -31,6 +31,7 @@ coinbase = record {
   inputs = record { prev = null; script = input_script; sequence = 0xffffffff } ∷ [];
   outputs = record { value = pos 5000000000; script = (65 ∷ key) ++ 0xac ∷ [] } ∷ [];
   lock_time = 0;
+  witnesses = [];
 }
 
 -- the coinbase's id, and the Merkle root, in the order in which ids are printed

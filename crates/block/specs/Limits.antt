@@ -2,7 +2,7 @@
 use Rattle.std.specs.Prelude.{◌≤◌, List, length}
 use Rattle.std.specs.List.{All}
 use Rattle.wire.specs.Numbers.{limit}
-use Rattle.txn.specs.declared.tx.Tx.{Tx}
+use Rattle.txn.specs.Tx.{Tx}
 use Rattle.txn.specs.Limits as txn
 use Rattle.block.specs.declared.block.Block.{Block}
 

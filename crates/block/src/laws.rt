@@ -3,7 +3,7 @@
 ghost use Rattle.std.specs.Prelude.{◌≡◌, ◌||◌, List, ℕ, [], ◌∷◌, ◌++◌, Ok, Some};
 ghost use Rattle.hash.specs.declared.id.Id.{Id};
 ghost use Rattle.wire.specs.Grammar.{IsBytes};
-ghost use Rattle.txn.specs.declared.tx.Tx.{Tx};
+ghost use Rattle.txn.specs.Tx.{Tx};
 ghost use Rattle.txn.specs.Grammar.{transaction};
 ghost use Rattle.txn.specs.Identity as txn;
 ghost use Rattle.txn.specs.computed.Reader.{tx_at};

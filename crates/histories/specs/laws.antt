@@ -7,3 +7,4 @@ pub mod Replies
 pub mod Tables
 pub mod Verdicts
 pub mod Checkpoints
+pub mod WitnessIds

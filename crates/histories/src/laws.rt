@@ -1,12 +1,17 @@
 //! What holds of whole histories.
 
-ghost use Rattle.std.specs.Prelude.{◌≡◌, ◌≢◌, ◌≤◌, ◌+◌, ◌++◌, ◌↔◌, ℕ, pos, ◌≤ℤ◌, true, false, List, length, None, Option, Some};
+ghost use Rattle.std.specs.Prelude.{◌≡◌, ◌≢◌, ◌≤◌, ◌+◌, ◌++◌, ◌∷◌, ◌↔◌, ℕ, pos, ◌≤ℤ◌, true, false, List, [], length, replicate, None, Option, Some};
+ghost use Rattle.std.specs.List.{AllByRecursion};
 ghost use Rattle.std.specs.FinMap as coin_map;
 ghost use mathlib.Core.List.{IsPrefix};
 ghost use Rattle.logbook.specs.Pages.{Book};
 ghost use Rattle.block.specs.Reward.{subsidy_of};
 ghost use Rattle.block.specs.declared.block.Block.{Block};
 ghost use Rattle.txn.specs.declared.outpoint.OutPoint.{OutPoint};
+ghost use Rattle.txn.specs.Identity.{ids_of};
+ghost use Rattle.txn.specs.Tx.{Tx};
+ghost use Rattle.txn.specs.Weight.{witness_ids_of};
+ghost use Rattle.txn.specs.WitnessGrammar.{has_witness};
 ghost use Rattle.coins.specs.declared.coin.Coin.{Coin};
 ghost use Rattle.coins.specs.Coins.{total};
 ghost use Rattle.signatures.specs.Known.{Agrees, Known, Under};
@@ -173,4 +178,11 @@ pub fn what_goes_on_from_a_checkpoint_is_a_history()
         → (xs : List Entry) × IsLegal o (xs ++ ys) × (length (xs ++ ys) ≡ c.count + length ys)
         × Under (known_from o c ys) (λ valid.
         state_after o valid (xs ++ ys) ≡ state_after_entries (machine o valid) c.state ys) }
+{}
+
+/// A block's ids with witnesses (BIP 141), where its transactions have none: 32 zero bytes for the coinbase, and the ids.
+pub fn without_witnesses_ids_are_ids()
+    ensures { (coinbase : Tx) (txs : List Tx)
+        → AllByRecursion (λ t. ¬ (t.inputs ≡ []) × (has_witness t.witnesses ≡ false)) txs
+        → witness_ids_of (coinbase ∷ txs) ≡ record { 0 = replicate 32 0 } ∷ ids_of txs }
 {}

@@ -3,4 +3,5 @@ pub mod Flags
 pub mod Lawful
 pub mod Marks
 pub mod RuleOrder
+pub mod Spelling
 pub mod OutpointOrder

@@ -6,7 +6,7 @@ use Rattle.std.proofs.lemmas.List.{drop-append-le, get_or-map, get_or-set_other,
 use Rattle.std.proofs.Math.Seq.{drop-append_seam, take-add}
 use Rattle.hash.specs.declared.id.Id.{Id}
 use Rattle.lanes.specs.Messages as messages
-use Rattle.txn.specs.declared.tx.Tx.{Tx}
+use Rattle.txn.specs.Tx.{Tx}
 use Rattle.txn.specs.Grammar.{transaction}
 use Rattle.txn.specs.Identity.{id_of, ids_of}
 use Rattle.txn.specs.inside.Marks.{AreMarks}
@@ -69,7 +69,7 @@ same_ids parts txs len each =
     (λ k d lt.
     let none : Bor (List ℕ) = record { ref_ptr = (0, 0); now = [] } in
     let within : k < length parts = omega (arith, lt, long) in
-    let tx : Tx = record { version = pos 0; inputs = []; outputs = []; lock_time = 0 } in
+    let tx : Tx = record { version = pos 0; inputs = []; outputs = []; lock_time = 0; witnesses = [] } in
     get_or-map messages.message_id (messages.bytes_of parts) k [] d (omega (arith, within, length-map parts now))
     ∙ ap messages.message_id (get_or-map now parts k none [] within ∙ each k none tx (omega (arith, within, len)))
     ∙ sym (get_or-map id_of txs k tx d (omega (arith, within, len))))

@@ -4,7 +4,7 @@ use Rattle.std.specs.List.{list_any}
 use Rattle.txn.specs.declared.outpoint.OutPoint.{OutPoint}
 use Rattle.txn.specs.declared.input.TxIn.{TxIn}
 use Rattle.txn.specs.declared.output.TxOut.{TxOut}
-use Rattle.txn.specs.declared.tx.Tx.{Tx}
+use Rattle.txn.specs.Tx.{Tx}
 use Rattle.txn.specs.declared.reason.Reason.TheVariants.{NoInputs, NoOutputs, OutputNegative, OutputTooLarge, OutputSumTooLarge, DuplicateInputs, CoinbaseLength, NullPrevout}
 pub use Rattle.txn.specs.Coinbase.{is_null, is_only_null, is_coinbase}
 pub use Rattle.txn.specs.Equality.{same_outpoint}

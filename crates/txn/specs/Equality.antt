@@ -5,8 +5,9 @@ use lib.Pointwise.{pointwise}
 use Rattle.hash.specs.Id.{same_id}
 use Rattle.txn.specs.declared.outpoint.OutPoint.{OutPoint}
 use Rattle.txn.specs.declared.input.TxIn.{TxIn}
+use Rattle.txn.specs.declared.input.Inputs.{Inputs}
 use Rattle.txn.specs.declared.output.TxOut.{TxOut}
-use Rattle.txn.specs.declared.tx.Tx.{Tx}
+use Rattle.txn.specs.Tx.{Tx}
 
 abbrev pub same_outpoint : OutPoint → OutPoint → Bool
 same_outpoint a b = same_id a.id b.id && (a.index == b.index)
@@ -20,11 +21,18 @@ same_input a b = same_outpoint a.prev b.prev && same_script a.script b.script &&
 abbrev pub same_output : TxOut → TxOut → Bool
 same_output a b = int_eq a.value b.value && same_script a.script b.script
 
-abbrev pub same_inputs : List TxIn → List TxIn → Bool
-same_inputs = pointwise same_input
+abbrev pub same_witness : List (List ℕ) → List (List ℕ) → Bool
+same_witness = pointwise same_script
+
+abbrev pub same_inputs : Inputs → Inputs → Bool
+same_inputs a b = pointwise same_input a.list b.list && pointwise same_witness a.witnesses b.witnesses
 
 abbrev pub same_outputs : List TxOut → List TxOut → Bool
 same_outputs = pointwise same_output
 
+-- the inputs of a transaction, with its witnesses
+abbrev pub inputs_of : Tx → Inputs
+inputs_of t = record { list = t.inputs; witnesses = t.witnesses }
+
 abbrev pub same_tx : Tx → Tx → Bool
-same_tx a b = int_eq a.version b.version && same_inputs a.inputs b.inputs && same_outputs a.outputs b.outputs && (a.lock_time == b.lock_time)
+same_tx a b = int_eq a.version b.version && same_inputs (inputs_of a) (inputs_of b) && same_outputs a.outputs b.outputs && (a.lock_time == b.lock_time)

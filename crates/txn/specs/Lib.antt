@@ -8,7 +8,11 @@ pub mod Identity
 pub mod Limits
 pub mod LockTime
 pub mod Reason
+pub mod Parts
 pub mod Sequence
+pub mod Tx
+pub mod Weight
+pub mod WitnessGrammar
 pub mod inside
 pub mod computed
 pub mod laws

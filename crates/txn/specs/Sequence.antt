@@ -1,7 +1,7 @@
 -- What an input's sequence number asks for (BIPs 65, 68 and 112; Bitcoin Core's `CTxIn`).
 use Rattle.std.specs.Prelude.{ℕ, ◌%◌, ◌^◌, ◌==◌, Bool, nat_le}
 use Rattle.std.specs.Int.{w32, cast_unsigned, bit_at}
-use Rattle.txn.specs.declared.tx.Tx.{Tx}
+use Rattle.txn.specs.Tx.{Tx}
 
 -- the number that asks for no lock time (`SEQUENCE_FINAL`)
 abbrev pub sequence_final : ℕ

@@ -4,7 +4,7 @@ ghost use Rattle.std.specs.Prelude.{◌≡◌, ◌++◌, ℕ, ◌/◌, min, List
 ghost use Rattle.wire.specs.declared.fault.WireFault.{WireFault};
 ghost use Rattle.wire.specs.Grammar.{IsBytes};
 ghost use Rattle.wire.specs.computed.Reader.{Gives, sized_at, many_at, counted_at};
-ghost use Rattle.txn.specs.declared.tx.Tx.{Tx};
+ghost use Rattle.txn.specs.Tx.{Tx};
 ghost use Rattle.txn.specs.Fault.{wire_fault_of};
 ghost use Rattle.txn.specs.Grammar.{transaction};
 ghost use Rattle.txn.specs.inside.Room.{least_input, least_output};
@@ -18,7 +18,7 @@ use crate::script::Script;
 use crate::tx::Tx;
 use hash::Id;
 use std::alloc::Global;
-use wire::Cursor;
+use wire::{Cursor, Parts};
 
 /// The fewest bytes of an input: an id of 32, an index of 4, the count of an empty script, a sequence of 4.
 const LEAST_INPUT: usize = 41;
@@ -37,7 +37,7 @@ fn outpoint(bytes: &mut Cursor) -> Result<OutPoint, TxFault>
 }
 
 #[tactic(auto, unfolding(wire::specs::computed::Reader::sized_at))]
-fn script(alloc: Global, bytes: &mut Cursor) -> Result<Script, TxFault>
+pub(crate) fn script(alloc: Global, bytes: &mut Cursor) -> Result<Script, TxFault>
     ensures { Gives wire_fault_of result bytes.new (sized_at bytes.old) }
 {
     let len = bytes.compact()?;
@@ -69,10 +69,21 @@ fn tx_out(alloc: Global, bytes: &mut Cursor) -> Result<TxOut, TxFault>
 }
 
 #[tactic(auto, unfolding(wire::specs::computed::Reader::counted_at))]
-fn inputs(alloc: Global, bytes: &mut Cursor) -> Result<Inputs, TxFault>
+pub(crate) fn inputs(alloc: Global, bytes: &mut Cursor) -> Result<Parts<TxIn>, TxFault>
     ensures { Gives wire_fault_of result bytes.new (counted_at tx_in_at bytes.old) }
 {
     let count = bytes.compact()?;
+    some_inputs(alloc, bytes, count)
+}
+
+/// So many inputs.
+pub(crate) fn some_inputs(
+    alloc: Global,
+    bytes: &mut Cursor,
+    count: u64,
+) -> Result<Parts<TxIn>, TxFault>
+    ensures { Gives wire_fault_of result bytes.new (many_at tx_in_at count bytes.old) }
+{
     // A count alone takes no memory: there is no room for more than the bytes can spell.
     let empty = Vec::with_capacity(alloc, bytes.room(count, LEAST_INPUT))?;
     each_input(alloc, bytes, count, empty)
@@ -84,7 +95,7 @@ fn each_input(
     bytes: &mut Cursor,
     count: u64,
     empty: Vec<TxIn>,
-) -> Result<Inputs, TxFault>
+) -> Result<Parts<TxIn>, TxFault>
     requires empty { empty.items ≡ [] }
     requires room { vec_capacity empty ≡ min count (length bytes.old / least_input) }
     ensures { Gives wire_fault_of result bytes.new (many_at tx_in_at count bytes.old) }
@@ -93,11 +104,11 @@ fn each_input(
     for _ in 0..count {
         items.push(tx_in(alloc, bytes)?)?;
     }
-    Ok(Inputs::from_vec(items))
+    Ok(Parts::from_vec(items))
 }
 
 #[tactic(auto, unfolding(wire::specs::computed::Reader::counted_at))]
-fn outputs(alloc: Global, bytes: &mut Cursor) -> Result<Outputs, TxFault>
+pub(crate) fn outputs(alloc: Global, bytes: &mut Cursor) -> Result<Outputs, TxFault>
     ensures { Gives wire_fault_of result bytes.new (counted_at tx_out_at bytes.old) }
 {
     let count = bytes.compact()?;
@@ -133,14 +144,14 @@ fn tx(alloc: Global, bytes: &mut Cursor) -> Result<Tx, TxFault>
     let lock_time = bytes.u32le()?;
     Ok(Tx {
         version,
-        inputs,
+        inputs: Inputs::of_parts(alloc, inputs),
         outputs,
         lock_time,
     })
 }
 
 /// The transaction at the front, as it is read from left to right.
-fn front(alloc: Global, bytes: &mut Cursor) -> Result<Tx, TxFault>
+pub(crate) fn front(alloc: Global, bytes: &mut Cursor) -> Result<Tx, TxFault>
     ensures exact { Gives wire_fault_of result bytes.new (tx_at bytes.old) }
     ensures kept { OnErr result (bytes.new ≡ bytes.old) }
     ensures bytes { IsBytes bytes.old }

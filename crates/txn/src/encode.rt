@@ -7,12 +7,12 @@ ghost use Rattle.wire.specs.laws.Extension.{Extends};
 ghost use Rattle.txn.specs.Grammar.{outpoint, input, output, transaction};
 ghost use Rattle.txn.specs.Limits.{AreInputsWithin, AreOutputsWithin, IsWithinLimits};
 
-use crate::input::{Inputs, TxIn};
+use crate::input::TxIn;
 use crate::outpoint::OutPoint;
 use crate::output::{Outputs, TxOut};
 use crate::script::Script;
 use crate::tx::Tx;
-use wire::{Memory, put_compact};
+use wire::{Memory, Parts, put_compact};
 
 #[tactic(auto, using(wire::specs::laws::Extension::extending))]
 fn put_outpoint(out: &mut Vec<u8>, p: &OutPoint) -> Result<(), Memory>
@@ -68,7 +68,7 @@ fn put_tx_out(out: &mut Vec<u8>, o: &TxOut) -> Result<(), Memory>
 }
 
 #[tactic(auto, using(wire::specs::laws::Extension::extending))]
-fn put_inputs(out: &mut Vec<u8>, inputs: &Inputs) -> Result<(), Memory>
+fn put_inputs(out: &mut Vec<u8>, inputs: &Parts<TxIn>) -> Result<(), Memory>
     ensures written { OnOk result (out.new.items
         ≡ out.old.items ++ (counted_list input).spell inputs.now) }
     ensures extends { Extends out.old.items out.new.items }
@@ -104,7 +104,7 @@ fn put_tx(out: &mut Vec<u8>, t: &Tx) -> Result<(), Memory>
     ensures lawful { OnOk result (IsWithinLimits t.now → transaction.Lawful t.now) }
 {
     out.extend_from_slice(&t.version.to_le_bytes())?;
-    put_inputs(out, &t.inputs)?;
+    put_inputs(out, &t.inputs.list)?;
     put_outputs(out, &t.outputs)?;
     out.extend_from_slice(&t.lock_time.to_le_bytes())?;
     Ok(())

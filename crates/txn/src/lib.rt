@@ -15,15 +15,17 @@ mod reason;
 mod script;
 pub mod sequence;
 mod tx;
+mod witness_decode;
 
 pub use check_transaction::{MAX_COINBASE_SCRIPT, MAX_MONEY, MIN_COINBASE_SCRIPT, check};
 pub use decode::read;
 pub use encode::write;
 pub use fault::TxFault;
-pub use input::{Inputs, TxIn};
+pub use input::{Inputs, TxIn, Witness};
 pub use many_ids::ids;
 pub use outpoint::OutPoint;
 pub use output::{Outputs, TxOut};
 pub use reason::Reason;
 pub use script::Script;
 pub use tx::{LOCKTIME_THRESHOLD, Tx};
+pub use witness_decode::read_by;

@@ -3,13 +3,17 @@
 ghost use Rattle.std.specs.Prelude.{◌≡◌, IfOk, IsTrue, ◌↔◌};
 ghost use Rattle.txn.specs.Coinbase.{IsCoinbase, is_coinbase};
 ghost use Rattle.txn.specs.Identity.{id_of};
+ghost use Rattle.txn.specs.Weight.{witness_id_of};
+ghost use Rattle.txn.specs.WitnessGrammar.{has_witness};
 
-use crate::hasher_input::feed_tx;
+use crate::hasher_input::{feed_tx, feed_witness_tx};
 use crate::input::Inputs;
 use crate::output::Outputs;
+use crate::witness_decode::is_any_there;
 use hash::{Id, finish};
 use sha2::{Digest, Sha256};
 use std::alloc::AllocError;
+use std::marker::Model;
 use wire::Memory;
 
 /// A lock time below it is a height, and else seconds since 1970 (Bitcoin Core's `LOCKTIME_THRESHOLD`).
@@ -22,6 +26,21 @@ pub struct Tx {
     pub inputs: Inputs,
     pub outputs: Outputs,
     pub lock_time: u32,
+}
+
+// A clause sees the witnesses beside the inputs, as a field of their own.
+impl Model for Tx {
+    ghost use Rattle.txn.specs.Tx as value;
+
+    ghost Value = { value.Tx };
+
+    ghost view = { λ tx. record {
+      version = tx.version;
+      inputs = tx.inputs.list;
+      outputs = tx.outputs;
+      lock_time = tx.lock_time;
+      witnesses = tx.inputs.witnesses;
+    } };
 }
 
 // A clone is the same value, which a type that contains transactions can build on.
@@ -81,6 +100,23 @@ impl Tx {
         let mut hasher = Sha256::new();
         feed_tx(&mut hasher, self);
         Id(finish(hasher))
+    }
+
+    /// The id with its witnesses (BIP 141, Bitcoin Core's `GetWitnessHash`): double SHA-256 of its bytes with them. Where
+    /// there is an input and no witness it is [`id`](Tx::id).
+    pub fn witness_id(&self) -> Id
+        ensures { result ≡ witness_id_of self.now }
+    {
+        let mut hasher = Sha256::new();
+        feed_witness_tx(&mut hasher, self);
+        Id(finish(hasher))
+    }
+
+    /// Whether one of its witnesses isn't empty (Bitcoin Core's `HasWitness`).
+    pub fn has_witness(&self) -> bool
+        ensures { result ≡ has_witness self.now.witnesses }
+    {
+        is_any_there(self.inputs.witnesses())
     }
 
     /// Whether it makes new coins, as the first transaction of a block does (Bitcoin Core's `IsCoinBase`).

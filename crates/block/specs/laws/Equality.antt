@@ -5,7 +5,7 @@ use Rattle.std.proofs.lemmas.Bool.Decides.{Decides-eqb, Decides-int_eq, Decides-
 use lib.Pointwise.{pointwise_decides, bytes_decides}
 use Rattle.hash.specs.declared.id.Id.{Id}
 use Rattle.hash.specs.Id.{same_id}
-use Rattle.txn.specs.declared.tx.Tx.{Tx}
+use Rattle.txn.specs.Tx.{Tx}
 use Rattle.txn.specs.laws.Equality.{same_tx-decides}
 use Rattle.block.specs.declared.header.Header.{Header}
 use Rattle.block.specs.declared.block.Block.{Block}

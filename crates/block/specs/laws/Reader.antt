@@ -6,7 +6,7 @@ use Rattle.wire.specs.computed.Reader.{Part, piece_at, number_at, i32_at, counte
 use Rattle.wire.specs.laws.Reader.{Decides, both, made, wide4, piece_decides, number_decides, signed32_decides, pair_decides, fields_decides, along, bind_assoc}
 use Rattle.wire.specs.laws.Counts.{counted_decides}
 use Rattle.hash.specs.declared.id.Id.{Id}
-use Rattle.txn.specs.declared.tx.Tx.{Tx}
+use Rattle.txn.specs.Tx.{Tx}
 use Rattle.txn.specs.Grammar.{transaction}
 use Rattle.txn.specs.computed.Reader.{tx_at}
 use Rattle.txn.specs.laws.Reader.{transaction_decides}

@@ -10,7 +10,7 @@ use Rattle.txn.specs.declared.outpoint.OutPoint.{OutPoint}
 use Rattle.txn.specs.declared.output.TxOut.{TxOut}
 use Rattle.txn.specs.declared.reason.Reason.{Reason}
 use Rattle.txn.specs.declared.reason.Reason.TheVariants.{CoinbaseAmount, OverwritesCoin}
-use Rattle.txn.specs.declared.tx.Tx.{Tx}
+use Rattle.txn.specs.Tx.{Tx}
 use Rattle.txn.specs.Check.{is_coinbase}
 use Rattle.txn.specs.First.{first_broken}
 use Rattle.txn.specs.Identity.{id_of}

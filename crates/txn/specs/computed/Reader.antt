@@ -1,10 +1,10 @@
 -- Reading from left to right, with the first fault that is met.
-use Rattle.std.specs.Prelude.{Ok}
+use Rattle.std.specs.Prelude.{Ok, []}
 use Rattle.wire.specs.computed.Reader.{◌>>=◌, Part, piece_at, number_at, i32_at, i64_at, counted_at, sized_at}
 use Rattle.txn.specs.declared.outpoint.OutPoint.{OutPoint}
 use Rattle.txn.specs.declared.input.TxIn.{TxIn}
 use Rattle.txn.specs.declared.output.TxOut.{TxOut}
-use Rattle.txn.specs.declared.tx.Tx.{Tx}
+use Rattle.txn.specs.Tx.{Tx}
 
 unfoldable pub outpoint_at : Part OutPoint
 outpoint_at bytes = do
@@ -31,4 +31,4 @@ tx_at bytes = do
   inputs ← counted_at tx_in_at version.1
   outputs ← counted_at tx_out_at inputs.1
   lock_time ← number_at 4 outputs.1
-  Ok (record { version = version.0; inputs = inputs.0; outputs = outputs.0; lock_time = lock_time.0 }, lock_time.1)
+  Ok (record { version = version.0; inputs = inputs.0; outputs = outputs.0; lock_time = lock_time.0; witnesses = [] }, lock_time.1)

@@ -8,3 +8,7 @@ least_input = 41
 -- a value of 8, the count of an empty script
 abbrev pub least_output : ℕ
 least_output = 9
+
+-- the count of a witness, or the length of a string
+abbrev pub least_count : ℕ
+least_count = 1

@@ -5,9 +5,10 @@ use Rattle.std.proofs.lemmas.Bool.Decides.{Decides-eqb, Decides-int_eq, Decides-
 use lib.Pointwise.{pointwise_decides, bytes_decides}
 use Rattle.txn.specs.declared.outpoint.OutPoint.{OutPoint}
 use Rattle.txn.specs.declared.input.TxIn.{TxIn}
+use Rattle.txn.specs.declared.input.Inputs.{Inputs}
 use Rattle.txn.specs.declared.output.TxOut.{TxOut}
-use Rattle.txn.specs.declared.tx.Tx.{Tx}
-use Rattle.txn.specs.Equality.{same_outpoint, same_script, same_input, same_output, same_inputs, same_outputs, same_tx}
+use Rattle.txn.specs.Tx.{Tx}
+use Rattle.txn.specs.Equality.{same_outpoint, same_script, same_input, same_output, same_witness, same_inputs, same_outputs, inputs_of, same_tx}
 
 pub same_script-decides : (a b : List ℕ) → Decides (same_script a b) (a ≡ b)
 same_script-decides = bytes_decides
@@ -27,14 +28,20 @@ same_output-decides a b =
     Decides-like (same_output a b) (λ e i. record { value = e.0 i; script = e.1 i }) (λ e. (ap (λ x. x.value) e, ap (λ x. x.script) e))
     (Decides-and _ _ (Decides-int_eq a.value b.value) (same_script-decides a.script b.script))
 
-pub same_inputs-decides : (a b : List TxIn) → Decides (same_inputs a b) (a ≡ b)
-same_inputs-decides = pointwise_decides same_input-decides
+pub same_witness-decides : (a b : List (List ℕ)) → Decides (same_witness a b) (a ≡ b)
+same_witness-decides = pointwise_decides same_script-decides
+
+pub same_inputs-decides : (a b : Inputs) → Decides (same_inputs a b) (a ≡ b)
+same_inputs-decides a b =
+    Decides-like (same_inputs a b) (λ e i. record { list = e.0 i; witnesses = e.1 i }) (λ e. (ap (λ x. x.list) e, ap (λ x. x.witnesses) e))
+    (Decides-and _ _ (pointwise_decides same_input-decides a.list b.list) (pointwise_decides same_witness-decides a.witnesses b.witnesses))
 
 pub same_outputs-decides : (a b : List TxOut) → Decides (same_outputs a b) (a ≡ b)
 same_outputs-decides = pointwise_decides same_output-decides
 
 pub same_tx-decides : (a b : Tx) → Decides (same_tx a b) (a ≡ b)
 same_tx-decides a b =
-    Decides-like (same_tx a b) (λ e i. record { version = e.0.0.0 i; inputs = e.0.0.1 i; outputs = e.0.1 i; lock_time = e.1 i })
-    (λ e. (((ap (λ t. t.version) e, ap (λ t. t.inputs) e), ap (λ t. t.outputs) e), ap (λ t. t.lock_time) e))
-    (Decides-and _ _ (Decides-and _ _ (Decides-and _ _ (Decides-int_eq a.version b.version) (same_inputs-decides a.inputs b.inputs)) (same_outputs-decides a.outputs b.outputs)) (Decides-eqb a.lock_time b.lock_time))
+    Decides-like (same_tx a b)
+    (λ e i. record { version = e.0.0.0 i; inputs = (e.0.0.1 i).list; outputs = e.0.1 i; lock_time = e.1 i; witnesses = (e.0.0.1 i).witnesses })
+    (λ e. (((ap (λ t. t.version) e, ap inputs_of e), ap (λ t. t.outputs) e), ap (λ t. t.lock_time) e))
+    (Decides-and _ _ (Decides-and _ _ (Decides-and _ _ (Decides-int_eq a.version b.version) (same_inputs-decides (inputs_of a) (inputs_of b))) (same_outputs-decides a.outputs b.outputs)) (Decides-eqb a.lock_time b.lock_time))

@@ -1,5 +1,5 @@
 -- Reading decides the grammar of transactions.
-use Rattle.std.proofs.Common.{ℕ, List, refl}
+use Rattle.std.proofs.Common.{inl, ℕ, List, [], Ok, refl, sym, ap}
 use Rattle.std.specs.Prelude.{ℤ}
 use Rattle.wire.specs.Grammar.{piece, number, signed32, signed64, pair, counted_list, sized_bytes}
 use Rattle.wire.specs.computed.Reader.{Part, piece_at, number_at, i32_at, i64_at, counted_at, sized_at}
@@ -8,8 +8,8 @@ use Rattle.wire.specs.laws.Counts.{counted_decides, sized_decides}
 use Rattle.txn.specs.declared.outpoint.OutPoint.{OutPoint}
 use Rattle.txn.specs.declared.input.TxIn.{TxIn}
 use Rattle.txn.specs.declared.output.TxOut.{TxOut}
-use Rattle.txn.specs.declared.tx.Tx.{Tx}
-use Rattle.txn.specs.Grammar.{outpoint, input, output, transaction}
+use Rattle.txn.specs.Tx.{Tx, Witness}
+use Rattle.txn.specs.Grammar.{outpoint, input, output, nothing, transaction}
 use Rattle.txn.specs.computed.Reader.{outpoint_at, tx_in_at, tx_out_at, tx_at}
 
 pub outpoint_decides : Decides outpoint outpoint_at
@@ -47,17 +47,29 @@ output_decides =
     (λ y. refl) (λ x. refl))
     (λ bytes. simp bind_assoc)
 
+pub nothing_decides : {A : Type 0} → Decides {A = List A} nothing (λ bytes. Ok ([], bytes))
+nothing_decides {A = A} = record {
+  again = λ x rest h. ap (λ (xs : List A). Ok (xs, rest)) (sym h);
+  refuses = λ fault bytes h. absurd h;
+  total = λ bytes fits. inl (record { value = []; rest = bytes; lawful = refl; parts = refl });
+}
+
+abbrev pub no_witnesses : Part (List Witness)
+no_witnesses bytes = Ok ([], bytes)
+
 pub transaction_decides : Decides transaction tx_at
 unfolding tx_at
 transaction_decides =
-    let to : ℤ × (List TxIn × (List TxOut × ℕ)) → Tx = λ p. record { version = p.0; inputs = p.1.0; outputs = p.1.1.0; lock_time = p.1.1.1 } in
-    let third : Part (List TxOut × ℕ) = both (counted_at tx_out_at) (number_at 4) in
-    let second : Part (List TxIn × (List TxOut × ℕ)) = both (counted_at tx_in_at) third in
-    let parts : Part (ℤ × (List TxIn × (List TxOut × ℕ))) = both i32_at second in
+    let to : ℤ × (List TxIn × (List TxOut × (List Witness × ℕ))) → Tx = λ p. record { version = p.0; inputs = p.1.0; outputs = p.1.1.0; witnesses = p.1.1.1.0; lock_time = p.1.1.1.1 } in
+    let last : Part (List Witness × ℕ) = both no_witnesses (number_at 4) in
+    let third : Part (List TxOut × (List Witness × ℕ)) = both (counted_at tx_out_at) last in
+    let second : Part (List TxIn × (List TxOut × (List Witness × ℕ))) = both (counted_at tx_in_at) third in
+    let parts : Part (ℤ × (List TxIn × (List TxOut × (List Witness × ℕ)))) = both i32_at second in
     along transaction (made to parts) tx_at
-    (fields_decides (pair signed32 (pair (counted_list input) (pair (counted_list output) (number 4)))) parts to (λ t. (t.version, (t.inputs, (t.outputs, t.lock_time))))
-    (pair_decides signed32 (pair (counted_list input) (pair (counted_list output) (number 4))) i32_at second signed32_decides
-    (pair_decides (counted_list input) (pair (counted_list output) (number 4)) (counted_at tx_in_at) third (counted_decides input tx_in_at input_decides)
-    (pair_decides (counted_list output) (number 4) (counted_at tx_out_at) (number_at 4) (counted_decides output tx_out_at output_decides) (number_decides 4 wide4))))
+    (fields_decides (pair signed32 (pair (counted_list input) (pair (counted_list output) (pair nothing (number 4))))) parts to (λ t. (t.version, (t.inputs, (t.outputs, (t.witnesses, t.lock_time)))))
+    (pair_decides signed32 (pair (counted_list input) (pair (counted_list output) (pair nothing (number 4)))) i32_at second signed32_decides
+    (pair_decides (counted_list input) (pair (counted_list output) (pair nothing (number 4))) (counted_at tx_in_at) third (counted_decides input tx_in_at input_decides)
+    (pair_decides (counted_list output) (pair nothing (number 4)) (counted_at tx_out_at) last (counted_decides output tx_out_at output_decides)
+    (pair_decides nothing (number 4) no_witnesses (number_at 4) nothing_decides (number_decides 4 wide4)))))
     (λ y. refl) (λ x. refl))
     (λ bytes. simp bind_assoc)

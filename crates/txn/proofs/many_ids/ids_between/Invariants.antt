@@ -1,7 +1,7 @@
 use Rattle.std.proofs.Common.{◌≡◌, ◌<◌, ℕ, List, length, slice_index_or}
 use Rattle.std.specs.Borrow.{Bor}
 use Rattle.txn.specs.inside.Marks.{lanes}
-use Rattle.txn.specs.declared.tx.Tx.{Tx}
+use Rattle.txn.specs.Tx.{Tx}
 use Rattle.txn.specs.Grammar.{transaction}
 use Rattle.txn.proofs.many_ids.ids_between.Given as goal
 
