@@ -2,6 +2,7 @@ pub mod Op
 pub mod Ops
 pub mod Kinds
 pub mod Signatures
+pub mod Programs
 pub mod Removal
 pub mod Num
 pub mod inside

@@ -65,7 +65,7 @@ pub fn p2sh_sigops(input: &[u8], spent: &[u8]) -> u128
 }
 
 /// What the last opcode of a script pushes.
-fn last_pushed(script: &[u8]) -> &[u8]
+pub(crate) fn last_pushed(script: &[u8]) -> &[u8]
     ensures { result.now ≡ last_pushed script.now }
 {
     let mut last: &[u8] = &[];

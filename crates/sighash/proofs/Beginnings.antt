@@ -11,7 +11,7 @@ use Rattle.hash.specs.Double.{double_sha}
 use Rattle.wire.specs.Grammar.{number, signed32, counted_list}
 use Rattle.wire.specs.Numbers.{compact_size}
 use Rattle.txn.specs.declared.input.TxIn.{TxIn}
-use Rattle.txn.specs.declared.tx.Tx.{Tx}
+use Rattle.txn.specs.Tx.{Tx}
 use Rattle.txn.specs.Grammar.{input, output, transaction}
 use Rattle.sighash.specs.Kind.{frees_sequences, is_alone, is_none, is_single}
 use Rattle.sighash.specs.Digest.{own_input, other_input, signed_inputs, signed_copy, digest_of}

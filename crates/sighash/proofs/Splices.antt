@@ -11,7 +11,7 @@ use Rattle.lanes.specs.Midstate.{IsAfter, part}
 use Rattle.wire.specs.Grammar.{number, sized_bytes, counted_list}
 use Rattle.wire.specs.Numbers.{compact_size}
 use Rattle.txn.specs.declared.input.TxIn.{TxIn}
-use Rattle.txn.specs.declared.tx.Tx.{Tx}
+use Rattle.txn.specs.Tx.{Tx}
 use Rattle.txn.specs.Grammar.{input, outpoint, output}
 use Rattle.sighash.specs.Digest.{digest_of, other_input, own_input}
 use Rattle.sighash.specs.declared.ahead.Group.{Group}

@@ -3,7 +3,7 @@
 use Rattle.std.specs.Prelude.{ℕ, ◌+◌, negsuc, List, [], ◌++◌, map, take, drop, if◌then◌else◌, ◌∷◌, length, replicate, nat_le, ◌&&◌}
 use Rattle.txn.specs.declared.input.TxIn.{TxIn}
 use Rattle.txn.specs.declared.output.TxOut.{TxOut}
-use Rattle.txn.specs.declared.tx.Tx.{Tx}
+use Rattle.txn.specs.Tx.{Tx}
 use Rattle.sighash.specs.Kind.{is_none, is_single, frees_sequences, is_alone}
 use Rattle.hash.specs.Double.{double_sha}
 use Rattle.wire.specs.Grammar.{number}
@@ -40,6 +40,7 @@ signed_copy t n code kind = record {
   inputs = signed_inputs kind n code t.inputs;
   outputs = signed_outputs kind n t.outputs;
   lock_time = t.lock_time;
+  witnesses = [];
 }
 
 -- double SHA-256 of the signed copy's bytes and the kind's four; for SINGLE without an output of that

@@ -1,4 +1,5 @@
 pub mod Kind
 pub mod Digest
+pub mod WitnessDigest
 pub mod Midstates
 pub mod inside

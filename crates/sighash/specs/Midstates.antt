@@ -1,6 +1,6 @@
 -- Midstates of several transactions.
 use Rattle.std.specs.Prelude.{◌≡◌, ℕ, List, Some, slice_get}
-use Rattle.txn.specs.declared.tx.Tx.{Tx}
+use Rattle.txn.specs.Tx.{Tx}
 use Rattle.sighash.specs.declared.midstates.Midstates.{Midstates}
 
 -- each is of the transaction at its place

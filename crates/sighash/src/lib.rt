@@ -11,8 +11,10 @@ mod midstates;
 mod precomputed_tx;
 mod signature_hash;
 mod spent;
+mod witness_hashes;
 
 pub use midstates::Midstates;
 pub use precomputed_tx::PrecomputedTx;
 pub use signature_hash::digest;
 pub use spent::SpentScripts;
+pub use witness_hashes::WitnessHashes;

@@ -148,11 +148,12 @@ impl<'a> Midstates<'a> {
         if let Some(digest) = self.found_ahead(input, code, kind) {
             return digest;
         }
+        let tx = self.tx;
         let (mut hasher, from) = self.nearest(input);
-        let (_, rest) = self.tx.inputs.as_slice().split_at(from);
+        let (_, rest) = tx.inputs.as_slice().split_at(from);
         feed_among(&mut hasher, rest, input - from, code, kind);
-        feed_outputs(&mut hasher, self.tx.outputs.as_slice());
-        hasher.update(self.tx.lock_time.to_le_bytes());
+        feed_outputs(&mut hasher, tx.outputs.as_slice());
+        hasher.update(tx.lock_time.to_le_bytes());
         hasher.update(kind.to_le_bytes());
         finish(hasher)
     }

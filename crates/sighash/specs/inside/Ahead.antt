@@ -6,7 +6,7 @@ use Rattle.hash.specs.declared.id.Id.{Id}
 use Rattle.lanes.specs.Lane.{lanes}
 use Rattle.lanes.specs.Midstate.{IsAfter, part}
 use Rattle.script.specs.Removal.{bytes_of}
-use Rattle.txn.specs.declared.tx.Tx.{Tx}
+use Rattle.txn.specs.Tx.{Tx}
 use Rattle.sighash.specs.Digest.{digest_of}
 use Rattle.sighash.specs.declared.ahead.Begun.{Begun}
 use Rattle.sighash.specs.declared.ahead.Group.{Group}

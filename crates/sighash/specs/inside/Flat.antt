@@ -2,7 +2,7 @@
 use Rattle.std.specs.Prelude.{◌≡◌, ℕ, ◌+◌, ◌-◌, ◌*◌, ◌≤◌, List, ◌++◌, length, take, drop}
 use denote.Struct.Props as logic
 use Rattle.wire.specs.Grammar.{number, sized_bytes, counted_list}
-use Rattle.txn.specs.declared.tx.Tx.{Tx}
+use Rattle.txn.specs.Tx.{Tx}
 use Rattle.txn.specs.Grammar.{output}
 use Rattle.sighash.specs.inside.MessageFront.{beginning}
 

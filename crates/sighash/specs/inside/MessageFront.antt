@@ -8,7 +8,7 @@ use Rattle.sha2.specs.Sha256.{Holds}
 use Rattle.wire.specs.Grammar.{signed32}
 use Rattle.wire.specs.Numbers.{compact_size}
 use Rattle.txn.specs.declared.input.TxIn.{TxIn}
-use Rattle.txn.specs.declared.tx.Tx.{Tx}
+use Rattle.txn.specs.Tx.{Tx}
 use Rattle.txn.specs.Grammar.{input}
 use Rattle.sighash.specs.Digest.{own_input, other_input}
 

@@ -1,7 +1,7 @@
 use Rattle.std.proofs.Common.{◌≡◌, ℕ, ◌+◌, ◌*◌, ◌≤◌, List, [], ◌∷◌, ◌++◌, Option, IfSome, length, subst, sym, ap, ◌∙◌, arith}
 use Rattle.std.proofs.lemmas.List.{length_push}
 use Rattle.lanes.specs.Midstate.{part}
-use Rattle.txn.specs.declared.tx.Tx.{Tx}
+use Rattle.txn.specs.Tx.{Tx}
 use Rattle.sighash.specs.declared.ahead.Group.{Group}
 use Rattle.sighash.specs.inside.Ahead.{AreDigests, AreGroups}
 use Rattle.sighash.specs.inside.MessageFront.{beginning}
@@ -20,7 +20,7 @@ loop-number-preserved g c =
     let right : IfSome found (λ (group : Group). AreDigests t (8 * length before) (part group.codes.items) group.digests) =
     subst (λ (n : ℕ). IfSome found (λ (group : Group). AreDigests t (8 * n) (part group.codes.items) group.digests)) (sym c.loop-number.invariant.count)
     (subst (λ (x : Tx). IfSome found (λ (group : Group). AreDigests x (8 * k) (part group.codes.items) group.digests)) same c.in_ok-group.ensures.group) in
-    let room : 8 * (k + 1) ≤ length flat.tx.now.inputs = omega (arith, ap (λ (x : Tx). length x.inputs) same, c.loop-number-test.true, c.len-count.ensures) in
+    let room : 8 * (k + 1) ≤ length flat.tx.now.inputs = omega (arith, ap (λ (x : Tx). length x.inputs) same, ap (λ (x : Tx). length x.inputs) c.tx.view_is, c.loop-number-test.true, c.len-count.ensures) in
     record {
       groups = subst (AreGroups t) (sym items) (groups_push t before found c.loop-number.invariant.groups right);
       count = ap length items ∙ length_push before found ∙ ap (λ (n : ℕ). n + 1) c.loop-number.invariant.count;

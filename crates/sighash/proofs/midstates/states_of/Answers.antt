@@ -4,6 +4,7 @@ use Rattle.std.proofs.lemmas.List.{length_push}
 use Rattle.sha2.specs.declared.Sha256.{Sha256}
 use Rattle.sha2.specs.Hashers.{Holds256}
 use Rattle.txn.specs.declared.input.TxIn.{TxIn}
+use Rattle.txn.specs.Tx.{Tx}
 use Rattle.txn.specs.Grammar.{input}
 use Rattle.sighash.specs.Digest.{other_input}
 use Rattle.sighash.specs.inside.MessageFront.{beginning, AreMidstates}
@@ -17,7 +18,7 @@ loop-place-preserved c =
     let before : List Sha256 = c.loop-place.states.items in
     let hasher : Sha256 = c.feed_others.new.hasher in
     let next : List TxIn = c.split_at-in-loop-place.result.0.now in
-    let there : next ≡ take 16 (drop (16 * place) t.inputs) = c.split_at-in-loop-place.ensures.front ∙ ap (take 16) (c.split_at.ensures.back ∙ ap (drop (16 * place)) c.as_slice-inputs.ensures) in
+    let there : next ≡ take 16 (drop (16 * place) t.inputs) = c.split_at-in-loop-place.ensures.front ∙ ap (take 16) (c.split_at.ensures.back ∙ ap (drop (16 * place)) (c.as_slice-inputs.ensures ∙ ap (λ (x : Tx). x.inputs) c.tx.view_is)) in
     let fed : Holds256 hasher (beginning t (16 * (place + 1))) =
     subst (Holds256 hasher)
     (ap (λ (l : List TxIn). beginning t (16 * place) ++ flat_map input.spell (map (other_input 1) l)) there ∙ beginning_next t (16 * place) 16 ∙ ap (beginning t) (omega arith))
