@@ -1,15 +1,17 @@
 //! A layer of changes over a base, which can be the base of further layers.
 
 ghost use Rattle.std.specs.Prelude.{◌≡◌, true, IfOk, OnOk, OnErr, None, Some, IsSome, is_some};
-ghost use Rattle.std.specs.Option.{option_copied};
+ghost use Rattle.std.specs.Option.{option_map};
 ghost use Rattle.std.specs.FinMap as map;
 ghost use Rattle.coins.specs.Changes.{AreChanges, after_changes};
 ghost use Rattle.coins.specs.Entries.{over, IsSound};
+ghost use Rattle.coins.specs.Lent.{lent};
 
 use crate::base::Base;
 use crate::changes::{Changes, changing};
 use crate::coin::Coin;
 use crate::entry::{CacheEntry, holds_coin, lay_all, make_room, put, take};
+use crate::lent::{Lent, lend};
 use crate::writes::Writes;
 use std::alloc::Global;
 use std::collections::BTreeMap;
@@ -21,6 +23,7 @@ use wire::Memory;
 /// base, and the layer's entries.
 #[derive(Drop)]
 pub struct Cache<'a, B: Base> {
+    alloc: Global,
     base: &'a B,
     entries: BTreeMap<OutPoint, CacheEntry>,
 }
@@ -49,18 +52,19 @@ impl<'a, B: Base> Cache<'a, B> {
         ensures coins { result.coins ≡ B.coins base.now }
     {
         Cache {
+            alloc,
             base,
             entries: BTreeMap::new(alloc),
         }
     }
 
     /// The coin at an outpoint, lent.
-    pub fn get(&self, at: &OutPoint) -> Option<&Coin>
-        ensures { option_copied result ≡ map.get self.now.coins at.now }
+    pub fn get(&self, at: &OutPoint) -> Option<Lent<'_>>
+        ensures { option_map lent result ≡ map.get self.now.coins at.now }
     {
         match self.entries.get(at) {
-            Some(CacheEntry::Dirty(coin)) => coin.as_ref(),
-            Some(CacheEntry::Fresh(coin)) => Some(coin),
+            Some(CacheEntry::Dirty(coin)) => lend(coin.as_ref()),
+            Some(CacheEntry::Fresh(coin)) => Some(coin.lend()),
             Some(CacheEntry::Clean) => self.base.get(at),
             None => self.base.get(at),
         }
@@ -98,7 +102,7 @@ impl<'a, B: Base> Cache<'a, B> {
             record self.old { coins = map.remove self.old.coins at.now }) }
         ensures err { OnErr result (self.new ≡ self.old) }
     {
-        take(&mut self.entries, self.base, at)
+        take(self.alloc, &mut self.entries, self.base, at)
     }
 
     /// Takes the coin that is there.
@@ -119,7 +123,11 @@ impl<'a, B: Base> Cache<'a, B> {
         // Laid over the base, they give the coins of this layer.
         ensures laid { after_changes self.entry.base result ≡ self.entry.coins }
     {
-        let Cache { base, entries } = self;
+        let Cache {
+            alloc: _,
+            base,
+            entries,
+        } = self;
         Changes::from_entries(changing(entries, base))
     }
 
@@ -128,7 +136,11 @@ impl<'a, B: Base> Cache<'a, B> {
         ensures sound { IsSound self.entry.base result }
         ensures over { over self.entry.base result ≡ self.entry.coins }
     {
-        let Cache { base: _, entries } = self;
+        let Cache {
+            alloc: _,
+            base: _,
+            entries,
+        } = self;
         Writes { entries }
     }
 
@@ -153,7 +165,7 @@ impl<'a, B: Base> Cache<'a, B> {
 impl<'a, B: Base> Base for Cache<'a, B> {
     ghost coins = { λ c. c.coins };
 
-    fn get(&self, at: &OutPoint) -> Option<&Coin> {
+    fn get(&self, at: &OutPoint) -> Option<Lent<'_>> {
         Cache::get(self, at)
     }
 }

@@ -1,18 +1,20 @@
 //! Lists of the coins that change.
 
 ghost use Rattle.std.specs.Prelude.{◌≡◌, ◌↔◌, IfOk, IsTrue, [], length, not};
-ghost use Rattle.std.specs.Option.{option_copied};
+ghost use Rattle.std.specs.Option.{option_copied, option_map};
 ghost use Rattle.std.specs.List.Sorted.{IsStrictlySortedBy};
 ghost use Rattle.std.specs.Map.{keys_of};
 ghost use Rattle.std.specs.FinMap as map;
 ghost use Rattle.coins.specs.Changes.{IsInOrder};
 ghost use Rattle.coins.specs.Coins.{outpoint_cmp};
 ghost use Rattle.coins.specs.Entries.{named};
+ghost use Rattle.coins.specs.Lent.{lent};
 ghost use Rattle.coins.specs.inside.Changes.{IsAsBelow, AreChanging};
 
 use crate::base::Base;
 use crate::coin::Coin;
 use crate::entry::CacheEntry;
+use crate::lent::Lent;
 use std::alloc::Global;
 use std::collections::BTreeMap;
 use std::marker::Model;
@@ -129,11 +131,11 @@ fn differs<B: Base>(entry: &CacheEntry, at: &OutPoint, base: &B) -> bool
     }
 }
 
-fn same(a: Option<&Coin>, b: Option<&Coin>) -> bool
-    ensures { IsTrue result ↔ (option_copied a.entry ≡ option_copied b.entry) }
+fn same(a: Option<&Coin>, b: Option<Lent<'_>>) -> bool
+    ensures { IsTrue result ↔ (option_copied a.entry ≡ option_map lent b.entry) }
 {
     match (a, b) {
-        (Some(a), Some(b)) => a.same(b),
+        (Some(a), Some(b)) => a.lend().same(&b),
         (None, None) => true,
         _ => false,
     }

@@ -2,6 +2,7 @@
 
 ghost use Rattle.std.specs.Prelude.{◌≡◌, ◌↔◌, IfOk, IsTrue};
 
+use crate::lent::Lent;
 use std::alloc::AllocError;
 use txn::Script;
 use wire::Memory;
@@ -31,6 +32,20 @@ impl Clone for Coin {
 }
 
 impl Coin {
+    ghost use Rattle.coins.specs.Lent.{lent};
+
+    /// The coin, lent.
+    pub fn lend(&self) -> Lent<'_>
+        ensures { lent result ≡ self.now }
+    {
+        Lent {
+            value: self.value,
+            script: self.script.as_slice(),
+            height: self.height,
+            coinbase: self.coinbase,
+        }
+    }
+
     /// An equal coin.
     pub fn copy(&self) -> Result<Coin, Memory>
         ensures { IfOk result (λ coin. coin ≡ self.now) }
@@ -42,9 +57,6 @@ impl Coin {
     pub fn same(&self, other: &Coin) -> bool
         ensures { IsTrue result ↔ (self.now ≡ other.now) }
     {
-        self.value == other.value
-            && self.height == other.height
-            && self.coinbase == other.coinbase
-            && self.script.as_slice() == other.script.as_slice()
+        self.lend().same(&other.lend())
     }
 }

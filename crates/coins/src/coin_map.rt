@@ -13,6 +13,7 @@ ghost use Rattle.coins.specs.laws.Lookups.{entry_for};
 
 use crate::base::Base;
 use crate::coin::Coin;
+use crate::lent::{Lent, lend};
 use crate::shards::{Shards, entry_after};
 use std::alloc::Global;
 use std::cmp::Ordering;
@@ -72,6 +73,16 @@ impl CoinMap {
             few,
             many,
         })
+    }
+
+    /// The coin at an outpoint, lent.
+    pub fn get(&self, at: &OutPoint) -> Option<&Coin>
+        ensures { option_copied result ≡ map.get self.now at.now }
+    {
+        match &self.many {
+            Some(shards) => find_among(shards, &self.few, at),
+            None => self.few.get(at),
+        }
     }
 
     /// Puts a coin at an outpoint.
@@ -308,10 +319,7 @@ fn drop_first(entries: &mut BTreeMap<OutPoint, Coin>)
 impl Base for CoinMap {
     ghost coins = { λ m. m };
 
-    fn get(&self, at: &OutPoint) -> Option<&Coin> {
-        match &self.many {
-            Some(shards) => find_among(shards, &self.few, at),
-            None => self.few.get(at),
-        }
+    fn get(&self, at: &OutPoint) -> Option<Lent<'_>> {
+        lend(CoinMap::get(self, at))
     }
 }

@@ -10,7 +10,7 @@ ghost use Rattle.coins.specs.inside.Entries.{added_entry, is_fresh, stands_at, e
 
 use crate::base::Base;
 use crate::coin::Coin;
-use std::alloc::AllocError;
+use std::alloc::{AllocError, Global};
 use std::collections::BTreeMap;
 use std::collections::btree_map::Entry;
 use txn::OutPoint;
@@ -116,6 +116,7 @@ fn forget(entries: &mut BTreeMap<OutPoint, CacheEntry>, at: &OutPoint)
 
 /// Takes the coin at an outpoint, if there is one. It is copied only where it isn't the layer's own.
 pub(crate) fn take<B: Base>(
+    alloc: Global,
     entries: &mut BTreeMap<OutPoint, CacheEntry>,
     base: &B,
     at: &OutPoint,
@@ -133,7 +134,7 @@ pub(crate) fn take<B: Base>(
             let Some(coin) = base.get(at) else {
                 return Ok(None);
             };
-            let coin = coin.copy()?;
+            let coin = coin.copy(alloc)?;
             place.insert(CacheEntry::Dirty(None));
             Ok(Some(coin))
         }
@@ -145,7 +146,7 @@ pub(crate) fn take<B: Base>(
                 let Some(coin) = base.get(at) else {
                     return Ok(None);
                 };
-                let coin = coin.copy()?;
+                let coin = coin.copy(alloc)?;
                 place.insert(CacheEntry::Dirty(None));
                 return Ok(Some(coin));
             }

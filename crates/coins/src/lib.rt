@@ -9,6 +9,7 @@ mod coin;
 mod coin_map;
 mod entry;
 pub mod laws;
+mod lent;
 mod shards;
 mod writes;
 
@@ -18,4 +19,5 @@ pub use changes::{Change, Changes};
 pub use coin::Coin;
 pub use coin_map::CoinMap;
 pub use entry::CacheEntry;
+pub use lent::Lent;
 pub use writes::Writes;

@@ -7,7 +7,7 @@ ghost use Rattle.std.specs.FinMap as coin_map;
 ghost use Rattle.hash.specs.declared.id.Id.{Id};
 ghost use Rattle.txn.specs.declared.outpoint.OutPoint.{OutPoint};
 ghost use Rattle.txn.specs.declared.output.TxOut.{TxOut};
-ghost use Rattle.txn.specs.declared.tx.Tx.{Tx};
+ghost use Rattle.txn.specs.Tx.{Tx};
 ghost use Rattle.txn.specs.Check.{is_coinbase};
 ghost use Rattle.script.specs.Kinds.{is_unspendable};
 ghost use Rattle.coins.specs.Coins.{Coins, same};

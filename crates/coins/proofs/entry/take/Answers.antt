@@ -3,6 +3,7 @@ use Rattle.std.specs.FinMap as map
 use Rattle.coins.specs.declared.entry.CacheEntry.{CacheEntry}
 use Rattle.coins.specs.declared.entry.CacheEntry.TheVariants.{Clean, Dirty}
 use Rattle.coins.specs.Entries.{entry_at}
+use Rattle.coins.specs.Lent.{lent}
 use Rattle.coins.specs.inside.Entries.{entry_without_coin, is_fresh}
 use Rattle.coins.proofs.Layers.{placed, kept, fresh_emptied, other_emptied}
 use Rattle.coins.proofs.entry.take.Goals as goal
@@ -44,7 +45,7 @@ returns-then-is_clean-clause-taken g c =
     let s = c.in_ok-place.ensures.same_map in
     let is = c.entries-then-is_clean-1.given.1 (search rules) ∙ w.1 in
     let clean : entry_at es k ≡ Some Clean = search rules in
-    let below : map.get (g.B.Base.coins c.args.base.now) k ≡ Some c.in-Some-get.coin.now = search rules in
+    let below : map.get (g.B.Base.coins c.args.base.now) k ≡ Some (lent c.in-Some-get.coin) = search rules in
     placed es _ _ k (Some (Dirty None)) _ (ap (λ m. m.entries) is ∙ search rules) (c.in_ok-place.ensures.update.0 (Dirty None)).0 (λ i. entry_without_coin (sym clean i) (sym below i))
 
 pub returns-in_ok-coin-in-Vacant-clause-taken : goal.returns-in_ok-coin-in-Vacant-clause-taken
@@ -54,7 +55,7 @@ returns-in_ok-coin-in-Vacant-clause-taken g c =
     let s = c.in_ok-place.ensures.same_map in
     let is = c.entries-in-Vacant-2-1.given.1 (search rules) in
     let none : entry_at es k ≡ None = search rules in
-    let below : map.get (g.B.Base.coins c.args.base.now) k ≡ Some c.in-Some.coin.now = search rules in
+    let below : map.get (g.B.Base.coins c.args.base.now) k ≡ Some (lent c.in-Some.coin) = search rules in
     placed es _ _ k (Some (Dirty None)) _ (ap (λ m. m.entries) is ∙ search rules) (c.in_ok-place.ensures.update.0 (Dirty None)).0 (λ i. entry_without_coin (sym none i) (sym below i))
 
 pub returns-else-is_clean-clause-taken : goal.returns-else-is_clean-clause-taken

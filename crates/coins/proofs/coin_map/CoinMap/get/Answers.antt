@@ -2,7 +2,7 @@ use Rattle.std.proofs.Common.{sym, ap, ◌∙◌, Option}
 use Rattle.std.specs.FinMap as map
 use Rattle.coins.specs.Coins.{Coins, few_and_many}
 use Rattle.coins.specs.laws.Lookups.{get-entries}
-use Rattle.coins.proofs.coin_map.CoinMapBase.get.Goals as goal
+use Rattle.coins.proofs.coin_map.CoinMap.get.Goals as goal
 
 pub returns-in-None : goal.returns-in-None
 returns-in-None c =
