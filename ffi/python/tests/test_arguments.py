@@ -310,7 +310,8 @@ ROWS = [
     row("encoding.mine", parent=ID, when=("number32", 1), transactions=("transactions", [TX]), version=("signed32", 4)),
     row("encoding.mine_spelled", parent=ID, when=("number32", 1), transactions=("stack", [RAW]), version=("signed32", 4),
         ids=("optional ids", [TX.id])),
-    row("encoding.meeting_target", header=("header", HEADER)), row("pool.Pool", bench=("own", POOLED), most=("number", 10**9)),
+    row("encoding.meeting_target", header=("header", HEADER)), row("pool.Pool", bench=("own", POOLED), most=("number", 10**9), full_rbf=("flag", False)),
+    row("pool.Pool.prioritise", id=ID, delta=("signed64", 0)),
     *(row(f"pool.Pool.{name}", tx=DATA) for name in ("add", "test")),
     *(row(f"pool.Pool.{name}", id=ID) for name in ("entry", "parents", "children", "ancestors", "descendants")),
     *(row(f"pool.Pool.{name}", id=ID, index=("number32", 0)) for name in ("spender", "coin")),
@@ -347,7 +348,7 @@ ROWS = [
 #: needs a database (tests/replicas has its arguments); what pytest calls (test_testing has its own).
 OTHER = {
     "ahead", "arguments", "asyncreplica", "benches", "errors", "explain", "extendedkeys", "filters", "following", "history", "index", "mempool",
-    "nodebench", "pipe", "processor", "replica", "replicabench", "replicacommand", "replicalog", "replication", "server", "stage", "testing", "vectors",
+    "nodebench", "pipe", "processor", "replacing", "replica", "replicabench", "replicacommand", "replicalog", "replication", "server", "stage", "testing", "vectors",
     "version", "__main__",
 }  # fmt: skip
 #: What other modules of the package call with what was taken before.

@@ -279,7 +279,7 @@ class WalletTest(Served):
         await self.waited({"confirmed": "7"}, "getbalance")
         data = await self.says("payto", destination=ADDRESS, amount="2", fee="0.0001")
         id = await self.says("broadcast", tx=data)
-        (waits,) = self.electrum.scripts.waiting.values()
+        (waits,) = [entry.tx for entry in self.electrum.scripts.pool]
         self.assertEqual((show(waits.id), 200_000_000 in [it.value for it in waits.outputs]), (id, True))
         await self.waited({"confirmed": "4.9999"}, "getbalance")
         await self.waited({"confirmations": 0}, "get_tx_status", txid=id)

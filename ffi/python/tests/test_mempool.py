@@ -29,6 +29,9 @@ def told(answer):
 
 
 class BesideLitecoindTest(CallsTest):
+    #: Litecoin's code replaces no transaction, and tests one alone.
+    OTHERWISE = {"R spends the same coin as A", "a fault: testmempoolaccept ([],)", "a fault: testmempoolaccept (['00', '00'"}
+
     def test_steps(self):
         def call(*words):
             status, body = self.running.posted({"method": words[0], "params": list(words[1:]), "id": 1})
@@ -39,7 +42,8 @@ class BesideLitecoindTest(CallsTest):
         self.assertEqual(len(found), len(wanted))
         for (what, answer), (name, other) in zip(found, wanted):
             with self.subTest(what):
-                self.assertEqual((what, told(answer)), (name, other))
+                self.assertEqual(what, name)
+                self.assertEqual(told(answer) == other, what not in self.OTHERWISE, (told(answer), other))
 
 
 class Waiting(CallsTest):
@@ -139,7 +143,8 @@ class RulesTest(Waiting):
         self.assertEqual(self.waiting(), {show(first.id), show(signing.id)})
 
     def test_a_block_takes_in_what_fits(self):
-        """Parents come first; what is too large for one block comes in the next one, with what hangs on it."""
+        """What pays most for its size comes first, and parents before children; what is too large for one block comes in the
+        next one."""
         data = bytes(300_000)
         large = [self.spends(self.coins[place], to=b"\x6a\x4e" + len(data).to_bytes(4, "little") + data) for place in range(4)]
         small = self.spends(self.coins[4])
@@ -149,7 +154,7 @@ class RulesTest(Waiting):
         info = self.call("getmempoolinfo")
         self.assertEqual((info["size"], info["bytes"]), (6, sum(len(write_transaction(tx)) for tx in (*large, small, child))))
         [first] = self.mined(1)
-        ids = [show(tx.id) for tx in (*large[:3], small, child)]
+        ids = [show(tx.id) for tx in (small, *large[:3], child)]
         self.assertEqual(self.call("getblock", first)["tx"][1:], ids)
         self.assertEqual(self.waiting(), {show(large[3].id)})
         [second] = self.mined(1)

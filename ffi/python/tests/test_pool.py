@@ -3,13 +3,14 @@
 
 import random
 import unittest
+from fractions import Fraction
 from unittest import mock
 
 from blocks import NOW, Maker, block_id, signed, spend, with_script
 from mempool_steps import played
 from test_bench import KEYS, SECP, SECRETS, pay_to_key_hash
 from test_pure import rows
-from wakotehu import Bench, DecodeFailed, NotAccepted, NotFound, Pool, errors, mempool, read_id, show, stage
+from wakotehu import Bench, DecodeFailed, NotAccepted, NotFound, Pool, errors, mempool, pool, read_id, show, stage
 from wakotehu.consensus import Triple
 from wakotehu.encoding import (
     Input, Output, Transaction, block_at_front, coinbase, hash160, push, read_block, read_transaction, signature_digest,
@@ -21,6 +22,10 @@ COIN, LAST = 100_000_000, 0xFFFFFFFF
 FAILED = "mandatory-script-verify-flag-failed"
 FALSE = " (Script evaluated without error but finished with a false/empty top stack element)"
 MISSING, LOCKED, CONFLICT = "bad-txns-inputs-missingorspent", "non-BIP68-final", "txn-mempool-conflict"
+#: Why one doesn't replace others, by Bitcoin Core's words, from memory.
+NOT_REPLACED = (
+    "insufficient fee", "replacement-adds-unconfirmed", "bad-txns-spends-conflicting-tx", "too many potential replacements",
+)  # fmt: skip
 
 
 def spends(id, value=50 * COIN, index=0, to=b"\x51", sequence=LAST, version=1, lock=0, script=b""):
@@ -103,7 +108,8 @@ class Calls:
 
 class BesideLitecoindTest(unittest.TestCase):
     #: What the calls refuse by a limit of theirs, and what `sendrawtransaction` says of a transaction that has coins.
-    OTHERWISE = {"J pays too much?", "J pays too much", "C is in a block"}
+    #: Litecoin's code replaces none.
+    OTHERWISE = {"J pays too much?", "J pays too much", "C is in a block", "R spends the same coin as A"}
 
     def test_steps(self):
         with Bench() as bench:
@@ -268,6 +274,182 @@ class RulesTest(Waiting):
         self.assertNotIn(self.coins[0], self.pool)
 
 
+class ReplacedTest(Waiting):
+    """BIP 125, with Bitcoin Core's words from memory: litecoind replaces none."""
+
+    def signalling(self, place=0, value=49 * COIN, count=1):
+        """One that may be replaced, which pays a coin."""
+        outs = [Output(value // count, b"\x51")] * count
+        return Transaction(2, [Input(self.coins[place], 0, b"", LAST - 2)], outs, 0)
+
+    def test_one_that_pays_more(self):
+        first = self.signalling()
+        child = spends(first.id, 48 * COIN)
+        self.add(first, child)
+        self.assertEqual(self.waiting(), [first.id, child.id])
+        size = 61
+        self.assertEqual(len(write_transaction(first)), size)
+        # What goes paid two coins, and the new one pays for its own bytes besides.
+        for value, more in (
+            (49 * COIN, f"new feerate {self.rate(COIN, size)} <= old feerate {self.rate(COIN, size)}"),
+            (48 * COIN + 1, "less fees than conflicting txs; 1.99999999 < 2.00"),
+            (48 * COIN, "not enough additional fees to relay; 0.00 < 0.00000061"),
+            (48 * COIN - size + 1, "not enough additional fees to relay; 0.0000006 < 0.00000061"),
+        ):
+            other = spends(self.coins[0], value)
+            sign = ";" if "feerate" in more else ","
+            self.refused(other, "insufficient fee", f"rejecting replacement {show(other.id)}{sign} {more}")
+        self.assertEqual(self.waiting(), [first.id, child.id])
+        last = spends(self.coins[0], 48 * COIN - size)
+        entry, seen = self.pool.test(write_transaction(last)), self.waiting()
+        self.assertEqual((entry.fee, seen), (2 * COIN + size, [first.id, child.id]))
+        self.add(last)
+        self.assertEqual((self.waiting(), self.pool.size), ([last.id], size))
+        # It doesn't signal.
+        self.refused(spends(self.coins[0], COIN), CONFLICT)
+        [mined] = self.pool.mine()
+        self.assertEqual([tx.id for tx in read_block(self.bench.block(mined)).transactions[1:]], [last.id])
+
+    def rate(self, fee, size):
+        satoshis = fee * 1000 // size
+        return f"{satoshis // COIN}.{satoshis % COIN:08} BTC/kB"
+
+    def test_the_own_inputs_signal(self):
+        """Not those of what it hangs on; all that are spent have to."""
+        first = self.signalling()
+        child = spends(first.id, 48 * COIN)
+        quiet = spends(self.coins[1], 49 * COIN)
+        self.add(first, child, quiet)
+        self.refused(spends(first.id, 40 * COIN), CONFLICT)
+        both = Transaction(2, [Input(self.coins[0], 0, b"", LAST), Input(self.coins[1], 0, b"", LAST)], [Output(COIN, b"\x51")], 0)
+        self.refused(both, CONFLICT)
+        self.pool = Pool(self.bench, full_rbf=True)
+        self.add(first, child, quiet, both)
+        self.assertEqual(self.waiting(), [both.id])
+
+    def test_what_it_needs(self):
+        """It may spend what the others spent of what waits, and no more; nothing that hangs on what it replaces."""
+        first, other = self.signalling(), self.signalling(1)
+        child = Transaction(2, [Input(first.id, 0, b"", LAST - 2)], [Output(48 * COIN, b"\x51")], 0)
+        self.add(first, other, child)
+        adds = Transaction(2, [Input(first.id, 0, b"", LAST), Input(other.id, 0, b"", LAST)], [Output(COIN, b"\x51")], 0)
+        self.refused(adds, "replacement-adds-unconfirmed", f"replacement {show(adds.id)} adds unconfirmed input, idx 1")
+        loop = Transaction(2, [Input(child.id, 0, b"", LAST), Input(self.coins[0], 0, b"", LAST)], [Output(COIN, b"\x51")], 0)
+        self.refused(loop, "bad-txns-spends-conflicting-tx", f"{show(loop.id)} spends conflicting transaction {show(first.id)}")
+        again = spends(first.id, 40 * COIN)
+        self.add(again)
+        self.assertEqual(self.waiting(), [first.id, other.id, again.id])
+
+    def test_too_many(self):
+        first = self.signalling(count=100)
+        self.add(first, *(spends(first.id, 1000 + at, at) for at in range(100)))
+        last = spends(self.coins[0], 0)
+        more = f"rejecting replacement {show(last.id)}; too many potential replacements (101 > 100)\n"
+        self.refused(last, "too many potential replacements", more)
+
+    def test_room(self):
+        """What goes leaves its room."""
+        first = self.signalling()
+        size = len(write_transaction(first))
+        self.pool = Pool(self.bench, size)
+        self.add(first)
+        self.refused(spends(self.coins[1], 0), "mempool full")
+        self.add(spends(self.coins[0], 0))
+        self.assertEqual(self.pool.size, size)
+
+    def test_priority(self):
+        """What is to be added to a fee counts for replacements and blocks; a block that has it ends that."""
+        first = self.signalling()
+        other = spends(self.coins[0], 49 * COIN + COIN // 2)
+        self.add(first)
+        self.pool.prioritise(first.id, -COIN)
+        self.refused(spends(self.coins[0], 50 * COIN), "insufficient fee", mock.ANY)
+        self.add(other)
+        large = [spends(self.coins[place], 49 * COIN, to=b"\x6a" + bytes(600_000)) for place in (1, 2)]
+        self.add(*large)
+        self.assertEqual([it.id for it in self.pool.selection()], [other.id, large[0].id])
+        self.pool.prioritise(large[1].id, 1)
+        self.assertEqual([it.id for it in self.pool.selection()], [other.id, large[1].id])
+        self.pool.prioritise(large[1].id, 49 * COIN * 10_000)
+        self.assertEqual([it.id for it in self.pool.selection()], [large[1].id, other.id])
+        self.pool.mine(2)
+        self.assertEqual(self.pool._all.deltas, {first.id: -COIN})
+        self.assertRaises(ValueError, self.pool.prioritise, first.id, 1 << 63)
+
+
+class ChosenTest(Waiting):
+    """What a block has that has no room for all."""
+
+    def selected(self, room):
+        with mock.patch.object(mempool, "MAX_BLOCK", room):
+            return [entry.id for entry in self.pool.selection()]
+
+    def family(self, draw, count):
+        """Transactions that hang on others at random, with fees at random."""
+        outpoints = [(id, 0, 50 * COIN) for id in self.coins[:6]]
+        for _ in range(count):
+            chosen = [outpoints.pop(draw.randrange(len(outpoints))) for _ in range(draw.choice((1, 1, 2)))]
+            value = sum(it[2] for it in chosen)
+            left = max(value - draw.choice((0, 100, 1000, 5000, 40_000)), 0)
+            outs = [Output(left // 3, b"\x51" + b"\x61" * draw.randrange(150)) for _ in range(3)]
+            tx = Transaction(2, [Input(id, index, b"", LAST) for id, index, _ in chosen], outs, 0)
+            self.add(tx)
+            outpoints += [(tx.id, index, left // 3) for index in range(3)]
+
+    def chosen_plainly(self, room):
+        """Bitcoin Core's way by its definition: each time the best of all packages that fit, looked at anew."""
+        entries, chosen, left = {it.id: it for it in self.pool}, [], room - 80 - 1 - self.made
+        while True:
+            packages = []
+            for place, id in enumerate(entries):
+                if id not in chosen:
+                    all = [it for it in [*self.pool.ancestors(id), id] if it not in chosen]
+                    sums = sum(entries[it].fee for it in all), sum(entries[it].size for it in all)
+                    own = Fraction(entries[id].fee, entries[id].size)
+                    packages.append((min(Fraction(*sums), own), -place, all, sums[1]))
+            packages = [it for it in packages if it[3] <= left]
+            if not packages:
+                return chosen
+            best = max(packages, key=lambda it: it[:2])
+            chosen += best[2]
+            left -= best[3]
+
+    def test_as_its_definition(self):
+        self.made = len(write_transaction(pool._made(111, 0, b"\x51", 0)))
+        for seed in range(12):
+            self.setUp()
+            self.family(random.Random(seed), 40)
+            for room in (1500, 3000, 6000):
+                with self.subTest(seed=seed, room=room):
+                    ours, plain = self.selected(room), self.chosen_plainly(room)
+                    self.assertEqual(self.worth(ours), self.worth(plain))
+
+    def worth(self, ids):
+        return sum(self.pool.entry(id).fee for id in ids)
+
+    def test_a_child_pays_for_its_parent(self):
+        parent = spends(self.coins[0])
+        other = spends(self.coins[1], 50 * COIN - 500)
+        child = spends(parent.id, 50 * COIN - 5000)
+        self.add(parent, other, child)
+        size = len(write_transaction(parent))
+        room = 80 + 1 + len(write_transaction(pool._made(111, 0, b"\x51", 0)))
+        self.assertEqual(self.selected(room + 2 * size), [parent.id, child.id])
+        self.assertEqual(self.selected(room + size), [other.id])
+        self.assertEqual(self.selected(room + 3 * size), [parent.id, other.id, child.id])
+
+    def test_a_long_line(self):
+        """What would be looked at together with more than 24 others comes when these are in the block."""
+        line = [spends(self.coins[0])]
+        for at in range(60):
+            line.append(spends(line[-1].id, 50 * COIN - at))
+        self.add(*line)
+        large = spends(self.coins[1], to=b"\x6a" + bytes(999_000 - 80))
+        self.add(large)
+        ids = [entry.id for entry in self.pool.selection()]
+        self.assertEqual(ids, [tx.id for tx in line])
+
+
 class RoomTest(Waiting):
     def test_what_fits(self):
         """What is too large for one block comes in the next one, with what hangs on it."""
@@ -275,7 +457,7 @@ class RoomTest(Waiting):
         small = spends(self.coins[4], 49 * COIN)
         child = spends(small.id, 48 * COIN)
         self.add(*large, small, child)
-        ids = [tx.id for tx in (*large[:3], small, child)]
+        ids = [tx.id for tx in (small, child, *large[:3])]
         self.assertEqual([entry.id for entry in self.pool.selection()], ids)
         self.assertEqual(read_block(self.pool.template()).header.parent, self.tip)
         first, second = self.pool.mine(2)
@@ -307,7 +489,7 @@ class RoomTest(Waiting):
         self.assertEqual(read_block(self.bench.block(mined)).transactions[1].id, sigops.id)
 
     def test_a_child_of_what_is_left_out(self):
-        large, many = spends(self.coins[0], to=b"\xac" * 10_000), spends(self.coins[1], 49 * COIN)
+        large, many = spends(self.coins[0], 40 * COIN, to=b"\xac" * 10_000), spends(self.coins[1], 49 * COIN)
         many = many._replace(outputs=[*many.outputs, Output(0, b"\xac" * 10_001)])
         child = spends(many.id, 49 * COIN)
         self.add(large, many, child)
@@ -577,7 +759,7 @@ class RandomTest(Waiting):
         try:
             id = self.pool.add(write_transaction(tx))
         except NotAccepted as error:
-            if error.reason not in ("txn-mempool-conflict", "txn-already-in-mempool"):
+            if error.reason not in (CONFLICT, "txn-already-in-mempool", *NOT_REPLACED):
                 self.assertNotEqual(self.as_a_block(entries, tx), "accepted", error)
             return False
         outpoints += [(id, 0), (id, 1)]

@@ -40,7 +40,7 @@ _HANDLES = {
 _MOST_ASKED = 2145
 #: All rules of scripts that came by soft forks.
 ALL = frozenset({"DERSIG", "CLTV", "CSV"})
-#: The same with BIP 16, which the calls that name a failure can do without.
+#: The same with BIP 16, which the calls that name a failure can do without. These also take "NULLDUMMY" (BIP 147).
 NAMED = ALL | {"P2SH"}
 
 
@@ -70,6 +70,7 @@ class ScriptError(Enum):
     UNSATISFIED_LOCKTIME = 21
     SIG_DER = 23
     SIG_PUSHONLY = 25
+    SIG_NULLDUMMY = 27
 
     @property
     def text(self) -> str:
@@ -751,8 +752,8 @@ def verify_script(
     data: bytes, input: int, spent: bytes, flags: Iterable[str] = NAMED, valid: Union[str, bytes, Table] = b"",
     invalid: Union[str, bytes, Table] = b"", signatures: Optional[str] = None,
 ) -> Union[None, ScriptError, Triple]:  # fmt: skip
-    """Why an input of a transaction may not spend a script, None where it may, under some of "P2SH", "DERSIG", "CLTV" and
-    "CSV"; or, as by `verify_known`, a triple that is not known yet, unless libsecp256k1 is asked as by `verify`."""
+    """Why an input of a transaction may not spend a script, None where it may, under some of "P2SH", "DERSIG", "NULLDUMMY",
+    "CLTV" and "CSV"; or, as by `verify_known`, a triple that is not known yet, unless libsecp256k1 is asked as by `verify`."""
     return _named("verify_script", _sized(data), input, spent, flags, valid, invalid, signatures)
 
 
@@ -909,7 +910,7 @@ def eval_script(
 
 _FORCED = ("DERSIG", "CLTV", "CSV")
 #: The bits of rules, which are Bitcoin Core's.
-_BITS = {"P2SH": 1, "DERSIG": 4, "CLTV": 512, "CSV": 1024}
+_BITS = {"P2SH": 1, "DERSIG": 4, "NULLDUMMY": 16, "CLTV": 512, "CSV": 1024}
 
 
 def _bits(flags: Iterable[str]) -> int:

@@ -1,13 +1,17 @@
 """Which transactions may wait to be mined (Bitcoin Core's `CTxMemPool`), by consensus rules alone: there is no policy, so what a
-block may have is accepted. Of two that spend one coin the first stays.
+block may have is accepted. Of two that spend one coin the first stays, but where it says that it may be replaced (BIP 125) and
+the other pays more.
 
 Whether the next block may have a transaction is for the chainstate to say: a block of it, and of what waits and has to be mined
 before it, is judged by a dry run, so nothing of it is left behind, and no rule is written here a second time. Where much has to
 be mined before it, and no rule looks at its block's height, that is mined on a stage, and the transaction alone is judged."""
 
+import heapq
+from collections import deque
 from contextlib import contextmanager
+from fractions import Fraction
 from itertools import takewhile
-from typing import Dict, Iterable, Iterator, List, NamedTuple, Optional, Protocol, Sequence, Set, Tuple
+from typing import Deque, Dict, Iterable, Iterator, List, NamedTuple, Optional, Protocol, Sequence, Set, Tuple, Union
 
 from . import consensus
 from .chainstate import Coin, Reply
@@ -15,6 +19,7 @@ from .coinset import CoinSet
 from .encoding import Spelled, Transaction, block_at_front, read_transaction, write_transaction
 from .errors import DecodeFailed, NotAccepted
 from .index import Index, Kept
+from .replacing import expect_replacing, money, rate, signals
 from .stage import Stage, next_block, next_coinbase
 
 Outpoint = Tuple[bytes, int]
@@ -30,10 +35,10 @@ MATURITY = 100
 PART = 1000
 #: What the coinbase of a dry run has.
 _TAG = b"a dry run"
+#: Of so many transactions that waited and were mined it is known what they paid.
+MOST_RATES = 10_000
 #: Where more than these have to be mined before a transaction, it is judged on a stage. Bitcoin Core lets no more wait.
 DEEP = 24
-#: An input with a higher sequence number doesn't signal that it may be replaced (BIP 125).
-REPLACEABLE = 0xFFFFFFFD
 
 #: What Bitcoin Core's mempool says of a transaction that isn't accepted where a block is refused by these.
 _WORDS = {
@@ -100,11 +105,14 @@ class Waiting:
         self._last = 0
         #: The one that was put last, behind those that have to be mined before it: the next one often hangs on it.
         self._line: List[Entry] = []
+        #: What miners are asked to add to fees, by the ids of transactions, in satoshis.
+        self.deltas: Dict[bytes, int] = {}
 
     def copy(self) -> "Waiting":
         """Another of the same, which stays as it is."""
         found = Waiting()
         found.entries, found.spenders, found.bytes = dict(self.entries), dict(self.spenders), self.bytes
+        found.deltas, found._places, found._last = dict(self.deltas), dict(self._places), self._last
         return found
 
     def put(self, entry: Entry) -> None:
@@ -155,6 +163,19 @@ class Waiting:
         """Those that can't be mined without one."""
         return self._reached(self.children(id), up=False)
 
+    def with_descendants(self, ids: Iterable[bytes]) -> List[bytes]:
+        """Some, and those that can't be mined without them."""
+        return list(dict.fromkeys(it for id in ids for it in [id, *self.descendants(id)]))
+
+    def conflicts(self, tx: Transaction) -> List[bytes]:
+        """Those that spend a coin that a transaction spends."""
+        found = (self.spenders.get((spends.id, spends.index)) for spends in tx.inputs)
+        return list(dict.fromkeys(it for it in found if it is not None))
+
+    def paid(self, entry: Entry) -> int:
+        """The fee of one, with what miners are asked to add to it."""
+        return entry.fee + self.deltas.get(entry.id, 0)
+
     def _reached(self, first: Iterable[bytes], up: bool) -> List[bytes]:
         found: Set[bytes] = set()
         left = list(first)
@@ -172,21 +193,83 @@ class Waiting:
         if self._line and parents == [self._line[-1].id] and parents[0] not in own:
             return [*self._line, *entries]
         above = self._reached(parents, up=True)
-        return [*(self.entries[it] for it in sorted(above, key=self._places.__getitem__) if it not in own), *entries]
+        return [*(self.entries[it] for it in self.in_order(above) if it not in own), *entries]
+
+    def in_order(self, ids: Iterable[bytes]) -> List[bytes]:
+        """Some of them, parents before their children."""
+        return sorted(ids, key=self._places.__getitem__)
 
     def is_replaceable(self, id: bytes) -> bool:
-        """Whether it, or what has to be mined before it, signals by BIP 125 that it may be replaced. Nothing is replaced."""
-        return any(
-            spends.sequence <= REPLACEABLE for it in [id, *self.ancestors(id)] for spends in self.entries[it].tx.inputs
-        )
+        """Whether it, or what has to be mined before it, signals by BIP 125 that it may be replaced."""
+        return any(signals(self.entries[it]) for it in [id, *self.ancestors(id)])
 
     def selection(self, room: Room) -> List[Entry]:
-        """What there is room for, in order; what hangs on one that is left out is left out."""
-        found: Dict[bytes, Entry] = {}
-        for entry in self.entries.values():
-            if all(it in found for it in self.parents(entry.id)) and room.take(entry):
-                found[entry.id] = entry
-        return list(found.values())
+        """What a block has room for, parents before children: all that waits, in the order in which it came; or else what pays
+        most for its size, with what has to be mined before it (Bitcoin Core's `addPackageTxs`)."""
+        everything = list(self.entries.values())
+        return everything if room.take(*everything) else _Choice(self, room).made()
+
+
+class _Choice:
+    """Chooses what a block has that has no room for all that waits."""
+
+    def __init__(self, waiting: Waiting, room: Room) -> None:
+        self._all, self._room = waiting, room
+        self._chosen: Dict[bytes, Entry] = {}
+        #: What to look at, the best first: of one that was put in again, the worse is out of date.
+        self._queue: List[Tuple[Fraction, int, bytes]] = []
+        self._count = 0
+
+    def made(self) -> List[Entry]:
+        """What is chosen, in order."""
+        for id in self._all.entries:
+            self._put(id)
+        while self._queue:
+            worth, _, id = heapq.heappop(self._queue)
+            package = None if id in self._chosen else self._package(id)
+            if package is None:
+                continue
+            if self._worth(id, package) != worth:
+                self._put(id)
+            elif self._room.take(*package):
+                self._chosen.update((entry.id, entry) for entry in package)
+                self._look_again(package)
+        return list(self._chosen.values())
+
+    def _package(self, id: bytes) -> Optional[List[Entry]]:
+        """One behind what has to be mined before it and isn't chosen; None where that is too much to be looked at together."""
+        found, left = {id}, [id]
+        while left:
+            for it in self._all.parents(left.pop()):
+                if it not in found and it not in self._chosen:
+                    found.add(it)
+                    left.append(it)
+            if len(found) > DEEP + 1:
+                return None
+        return [self._all.entries[it] for it in self._all.in_order(found)]
+
+    def _worth(self, id: bytes, package: Sequence[Entry]) -> Fraction:
+        """What stands in the queue for a package: by its fee for a byte, or by that of the last alone where that is less."""
+        paid, size = sum(map(self._all.paid, package)), sum(entry.size for entry in package)
+        own = self._all.entries[id]
+        return -min(Fraction(paid, size), Fraction(self._all.paid(own), own.size))
+
+    def _put(self, id: bytes) -> None:
+        package = self._package(id)
+        if package is not None:
+            self._count += 1
+            heapq.heappush(self._queue, (self._worth(id, package), self._count, id))
+
+    def _look_again(self, package: Sequence[Entry]) -> None:
+        """Puts in again what a choice may have made worth more: what hangs on it, so far as it would be looked at together."""
+        found: Set[bytes] = set()
+        level = [entry.id for entry in package]
+        for _ in range(DEEP + 1):
+            below = (it for id in level for it in self._all.children(id))
+            level = [it for it in dict.fromkeys(below) if it not in found and it not in self._chosen]
+            found.update(level)
+        for id in found:
+            self._put(id)
 
 
 class Chain(Protocol):
@@ -205,12 +288,30 @@ class Chain(Protocol):
     def block(self, id: bytes) -> Optional[bytes]: ...
 
 
+class Policy(Protocol):
+    """What else is asked of a transaction than the rules of consensus ask; `NotAccepted` says no."""
+
+    def expect_standard(self, tx: Transaction, size: int) -> None:
+        """By itself."""
+
+    def expect_standard_spends(self, tx: Transaction, coins: Sequence[Coin], sigops: int) -> None:
+        """By the coins that it spends."""
+
+    def expect_fee(self, fee: int, size: int) -> None:
+        """By what it pays."""
+
+
 class Mempool(Waiting):
     """What waits on the active branch of a chainstate."""
 
-    def __init__(self, bench: Chain, most: int = MOST_BYTES) -> None:
+    #: Asked besides, where there is one.
+    policy: Optional[Policy] = None
+
+    def __init__(self, bench: Chain, most: int = MOST_BYTES, full_rbf: bool = False) -> None:
         super().__init__()
         self.bench, self.most = bench, most
+        #: Whether one that pays more replaces one that doesn't say that it may be replaced, too (-mempoolfullrbf).
+        self.full_rbf = full_rbf
         #: Transactions of blocks that left the active branch, to be looked at again.
         self._returning: Dict[bytes, Tuple[Transaction, bytes]] = {}
         #: Whether what waits has to be judged again; and the soft forks that are in force in the next block.
@@ -220,6 +321,8 @@ class Mempool(Waiting):
         self._moves = 0
         #: A stage on the active block, where one was needed.
         self._stage: Optional[Stage] = None
+        #: Heights at which transactions were mined that waited here, and what they paid for 1,000 bytes.
+        self.mined: Deque[Tuple[int, int]] = deque(maxlen=MOST_RATES)
 
     # ---- what is another thing at a bench and at a server
 
@@ -243,6 +346,13 @@ class Mempool(Waiting):
         """Whether the chainstate takes a signature for valid."""
         raise NotImplementedError
 
+    # ---- what is kept beyond the process
+
+    def rows(self) -> List[Entry]:
+        """All that waits, parents before children, and behind it what may wait again of blocks that left the active branch."""
+        again = [Entry(id, tx, data, 0, 0, self.now(), 0, False) for id, (tx, data) in self._returning.items()]
+        return [*self.entries.values(), *again]
+
     # ---- the active branch
 
     def tip(self) -> Kept:
@@ -259,7 +369,7 @@ class Mempool(Waiting):
         before, self._forks = self._forks, self._in_force()
         for id in gone:
             self._returning.update(self._transactions(id))
-        if not self.entries and not self._returning:
+        if not self.entries and not self._returning and not self.deltas:
             return
         for id in come:
             for own, (tx, _) in self._transactions(id).items():
@@ -278,8 +388,17 @@ class Mempool(Waiting):
         places = range(1, len(block.ids))
         return {block.ids[at]: (block.transaction(at), data[slice(*block.places[at])]) for at in places}
 
+    def estimate(self, blocks: int) -> Optional[int]:
+        """The middle of what was paid for 1,000 bytes by what waited here and was mined within so many blocks; None where none
+        was."""
+        lowest = self.tip().height - blocks
+        rates = sorted(paid for height, paid in self.mined if height > lowest)
+        return rates[len(rates) // 2] if rates else None
+
     def _mined(self, id: bytes, tx: Transaction) -> None:
+        self.deltas.pop(id, None)
         if id in self.entries:
+            self.mined.append((self.tip().height, rate(self.entries[id].fee, self.entries[id].size)))
             self.drop(id)
         for spends in tx.inputs:
             other = self.spenders.get((spends.id, spends.index))
@@ -348,7 +467,7 @@ class Mempool(Waiting):
         while True:
             moves = self._moves
             try:
-                found = self._judged(data, self, tx)
+                found = self._judged(data, self, tx, may_replace=True)
             except NotAccepted:
                 if self._moves == moves:
                     raise
@@ -357,14 +476,47 @@ class Mempool(Waiting):
                     return found._replace(is_sent=True)
             self.look_again()
 
-    def add(self, entry: Entry) -> None:
-        """Adds what was judged on this active branch."""
+    def judge_all(self, rows: Sequence[Tuple[bytes, Transaction]]) -> List[Union[Entry, NotAccepted]]:
+        """The same of transactions that are sent one after the other, up to the first that may not wait. They replace nothing."""
+        while True:
+            moves, found = self._moves, self._judged_all(rows, self.copy())
+            if self._moves == moves:
+                return found
+            self.look_again()
+
+    def _judged_all(self, rows: Sequence[Tuple[bytes, Transaction]], among: Waiting) -> List[Union[Entry, NotAccepted]]:
+        found: List[Union[Entry, NotAccepted]] = []
+        for data, tx in rows:
+            try:
+                entry = self._judged(data, among, tx)
+            except NotAccepted as error:
+                is_spent = error.reason == "txn-mempool-conflict"
+                return [*found, NotAccepted("bip125-replacement-disallowed") if is_spent else error]
+            among.put(entry)
+            found.append(entry._replace(is_sent=True))
+        return found
+
+    def add(self, entry: Entry) -> List[bytes]:
+        """Adds what was judged on this active branch: the ids of what it replaces, which goes."""
+        gone = self.with_descendants(self.conflicts(entry.tx))
+        self._stage = None if gone else self._stage
+        for id in gone:
+            self.drop(id)
+            self.told(b"R", id)
         self.put(entry)
         self.told(b"A", entry.id, entry.data)
+        return gone
 
-    def _judged(self, data: bytes, among: Waiting, tx: Optional[Transaction] = None) -> Entry:
+    def prioritise(self, id: bytes, delta: int) -> None:
+        """Has miners add to the fee of a transaction, which needn't wait yet; what was said before counts too."""
+        self.deltas[id] = self.deltas.get(id, 0) + delta
+
+    def _judged(self, data: bytes, among: Waiting, tx: Optional[Transaction] = None, may_replace: bool = False) -> Entry:
         """What a transaction would be among others; `NotAccepted` where the next block may not have it behind them."""
-        entry = self._weighed(data, among, tx)
+        entry = self._weighed(data, among, tx, may_replace)
+        if among.conflicts(entry.tx):
+            # There what is to be replaced may be mined already.
+            self._stage = None
         block = among.with_ancestors(entry)
         is_deep = len(block) > DEEP + 1 and self._may_come_later(entry, among)
         reply = self._is_refused_on_stage(block) if is_deep else self._is_refused(block)
@@ -375,10 +527,11 @@ class Mempool(Waiting):
 
     def _expect_bytes(self, entry: Entry, among: Waiting) -> None:
         """That one more may wait."""
-        if among.bytes + entry.size > self.most:
+        gone = sum(among.entries[it].size for it in among.with_descendants(among.conflicts(entry.tx)))
+        if among.bytes - gone + entry.size > self.most:
             raise NotAccepted("mempool full")
 
-    def _weighed(self, data: bytes, among: Waiting, read: Optional[Transaction] = None) -> Entry:
+    def _weighed(self, data: bytes, among: Waiting, read: Optional[Transaction] = None, may_replace: bool = False) -> Entry:
         """A transaction with what its coins make of it, in so far as they are there; what it breaks by itself, and by what waits,
         is refused, in Bitcoin Core's order."""
         tip = self.tip()
@@ -391,11 +544,14 @@ class Mempool(Waiting):
             is_final = not own.reason and consensus.is_final(data, tip.height + 1, tip.median)
         if own.reason or own.coinbase:
             raise NotAccepted(own.reason or "coinbase")
+        if self.policy:
+            self.policy.expect_standard(tx, len(data))
         if not is_final:
             raise NotAccepted("non-final")
         if own.id in among.entries:
             raise NotAccepted("txn-already-in-mempool")
-        if any((it.id, it.index) in among.spenders for it in tx.inputs):
+        others = among.conflicts(tx)
+        if others and not (may_replace and (self.full_rbf or all(signals(among.entries[it]) for it in others))):
             raise NotAccepted("txn-mempool-conflict")
         coins = self._coins(tx, among)
         if len(coins) < len(tx.inputs):
@@ -404,7 +560,14 @@ class Mempool(Waiting):
         with self.others():
             fee = sum(coin.value for coin in coins) - sum(out.value for out in tx.outputs)
             inner = sum(consensus.p2sh_sigops(it.script, coin.script) for it, coin in zip(tx.inputs, coins))
-        return Entry(own.id, tx, data, fee, own.sigops + inner, self.now(), tip.height, False)
+        found = Entry(own.id, tx, data, fee, own.sigops + inner, self.now(), tip.height, False)
+        # What makes money is refused by a rule.
+        if self.policy and fee >= 0:
+            self.policy.expect_standard_spends(tx, coins, found.sigops)
+            self.policy.expect_fee(among.paid(found), found.size)
+        if others and fee >= 0:
+            expect_replacing(found, others, among)
+        return found
 
     def _coins(self, tx: Transaction, among: Waiting) -> List[Coin]:
         """The coins that a transaction spends, of what waits and of the active branch, up to the first that isn't there. They are
@@ -469,7 +632,7 @@ class Mempool(Waiting):
         more = "no block has room for it and what it needs" if reason == "too-long-mempool-chain" else ""
         if reason == "bad-txns-in-belowout":
             spent, paid = sum(it.value for it in coins), sum(it.value for it in entry.tx.outputs)
-            more = f"value in ({_money(spent)}) < value out ({_money(paid)})"
+            more = f"value in ({money(spent)}) < value out ({money(paid)})"
         if reason == "bad-txns-premature-spend-of-coinbase":
             deep = [self.tip().height + 1 - coin.height for coin in coins if coin.coinbase]
             more = f"tried to spend coinbase at depth {next((it for it in deep if it < MATURITY), 0)}"
@@ -504,12 +667,6 @@ class Mempool(Waiting):
             if not isinstance(found, consensus.Triple):
                 return f" ({found.text})" if found else ""
             known[self.is_valid(found)] += found.line
-
-
-def _money(satoshis: int) -> str:
-    """An amount in bitcoin, with two digits behind the point at least."""
-    whole, part = divmod(satoshis, 100_000_000)
-    return f"{whole}.{f'{part:08}'.rstrip('0').ljust(2, '0')}"
 
 
 def _parents_first(rows: Dict[bytes, Tuple[Transaction, bytes]]) -> List[bytes]:

@@ -4,7 +4,7 @@ import time
 from typing import Iterator, List, Optional, Union
 
 from .addresses import script_of
-from .arguments import id_of, instance, number, octets, text
+from .arguments import id_of, instance, number, octets, signed, text
 from .bench import Bench
 from .chainstate import Coin
 from .consensus import Triple
@@ -18,8 +18,8 @@ ANYONE = b"\x51"
 
 
 class _Mempool(Mempool):
-    def __init__(self, bench: Bench, most: int) -> None:
-        super().__init__(bench, most)
+    def __init__(self, bench: Bench, most: int, full_rbf: bool) -> None:
+        super().__init__(bench, most, full_rbf)
         self._own = bench
 
     def now(self) -> int:
@@ -37,20 +37,21 @@ class _Mempool(Mempool):
 
 class Pool:
     """Transactions that wait to be mined on the active branch of a `Bench`, in the order in which they came, by consensus rules
-    alone: there is no policy. A block takes those away that it has, with what spends the same coins; what blocks that leave
-    the active branch had waits again.
+    alone: there is no policy, but that one which pays more replaces those that signal it (BIP 125). A block takes those away
+    that it has, with what spends the same coins; what blocks that leave the active branch had waits again.
 
     Whether one may wait is for the chainstate to say, by a dry run: its journal and its blocks stay as they are. Signatures
     that this asks for are verified, and stay known.
 
     bench: each step that it takes is taken up when the pool is used next.
     most: how many bytes may wait.
+    full_rbf: whether those that don't signal it are replaced too.
     """
 
-    def __init__(self, bench: Bench, most: int = MOST_BYTES) -> None:
+    def __init__(self, bench: Bench, most: int = MOST_BYTES, full_rbf: bool = False) -> None:
         self.bench = instance(bench, Bench, "bench")
         self._seen, self._best = len(bench.bests), bench.best()
-        self._all = _Mempool(bench, number(most, "most", 64))
+        self._all = _Mempool(bench, number(most, "most", 64), instance(full_rbf, bool, "full_rbf"))
 
     def _now(self) -> Mempool:
         """What waits, after all steps of the bench so far."""
@@ -83,6 +84,10 @@ class Pool:
         """What `add` would put, or its exception; nothing changes."""
         data = octets(tx, "tx")
         return self._now().judge(data)
+
+    def prioritise(self, id: bytes, delta: int) -> None:
+        """Has blocks take a transaction as if it paid so many satoshis more, or less; it needn't wait yet."""
+        self._now().prioritise(id_of(id), signed(delta, "delta", 64))
 
     # ---- what waits
 

@@ -22,8 +22,8 @@ from .errors import Error
 from .nodebench import SEATS, NodeBench
 from .replicabench import ReplicaBench
 from .rpc import (
-    addresses, blockchain, chain, control, descriptors, filters, keys, making, mining, notices, proofs, sending, settings, signing,
-    stats, template, txs, waiting,
+    addresses, blockchain, chain, control, descriptors, filters, keys, making, mining, notices, policy, proofs, saved, sending,
+    settings, signing, stats, template, txs, waiting,
 )  # fmt: skip
 from .rpc.auth import COOKIE_USER, Gate, remove_cookie, write_cookie
 from .rpc.datadir import BadFolder, Folder, Opening
@@ -36,9 +36,11 @@ from .version import __version__
 
 #: The modules that put calls into the table.
 MODULES = (
-    addresses, blockchain, chain, control, descriptors, filters, keys, making, mining, notices, proofs, sending, signing, stats,
-    template, txs, waiting,
+    addresses, blockchain, chain, control, descriptors, filters, keys, making, mining, notices, proofs, saved, sending, signing,
+    stats, template, txs, waiting,
 )  # fmt: skip
+#: The file of -datadir that has what waits to be mined.
+MEMPOOL = "mempool.dat"
 #: M_MMAP_THRESHOLD of glibc's malloc.h.
 _MMAP_THRESHOLD = -3
 #: Names of soft forks for -testactivationheight, by their places in the heights; csv has BIPs 68, 112 and 113.
@@ -163,6 +165,10 @@ def _parser() -> _Parser:
         add(f"--zmqpub{topic}", action="append", default=[], metavar="ADDRESS", help=_ZMQ[topic])
         add(f"--zmqpub{topic}hwm", metavar="N", help=argparse.SUPPRESS)
     add("--maxmempool", metavar="N", help="how many MB of transactions may wait to be mined; 300 by default")
+    add("--mempoolfullrbf", nargs="?", const="1", default="0", help="a transaction that pays more replaces those that don't signal it too")
+    add("--acceptnonstdtxn", nargs="?", const="1", default="1", help="0: transactions that Bitcoin Core wouldn't relay are refused,"
+        " for tests of that")  # fmt: skip
+    add("--persistmempool", nargs="?", const="1", default="1", help="with -datadir: what waits to be mined is kept; it is the default")
     add("--txindex", nargs="?", const="1", default="0", help="getrawtransaction finds transactions of active blocks by their ids alone")
     add("--blockfilterindex", nargs="?", const="1", default="0", help="getblockfilter has the basic filters of blocks (BIP 158)")
     add("--page", action="store_true", help="shows the block tree, blocks, transactions and coins in a browser, at /page of the same"
@@ -196,7 +202,8 @@ def _given(words: Sequence[str]) -> argparse.Namespace:
         heights[FORKS[fork]] = _number(parser, number, "-testactivationheight", 2**32 - 1)
     given.heights = tuple(heights) if given.testactivationheight else None
     given.maxmempool = _number(parser, "300" if given.maxmempool is None else given.maxmempool, "-maxmempool", 100_000)
-    given.txindex = settings.is_on(given.txindex)
+    for name in ("txindex", "mempoolfullrbf", "persistmempool", "acceptnonstdtxn"):
+        setattr(given, name, settings.is_on(getattr(given, name)))
     try:
         given.blockfilterindex = settings.has_filters(given.blockfilterindex)
     except settings.BadSetting as error:
@@ -374,10 +381,17 @@ def _run(given: argparse.Namespace, folder: Optional[Folder], cookies: List[Tupl
                 print(f"the page is http://127.0.0.1:{port}{PATH}", flush=True)
 
         _collect_seldom()
-        node = Node(bench, given.maxmempool * 1_000_000, given.txindex)
+        node = Node(bench, given.maxmempool * 1_000_000, given.txindex, given.mempoolfullrbf)
+        node.mempool.policy = None if given.acceptnonstdtxn else policy
+        if folder and given.persistmempool:
+            node.saves_to = os.path.join(given.datadir, MEMPOOL)
+            with node.turn:
+                saved.load(node, node.saves_to)
         node.publisher = publisher
         node.filters = filters.FilterIndex() if given.blockfilterindex else None
         serve(node, gate, hosts, given.rpcport, ready, Page(node) if given.page else None, lambda: signals.came)
+        if node.saves_to is not None and not node.broken:
+            saved.save(node.mempool, node.saves_to)
         if node.broken:
             raise Error(node.broken)
 

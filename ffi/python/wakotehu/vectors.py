@@ -18,11 +18,13 @@ from .signatures import secp256k1
 from .spelling import read_script
 
 #: The flags that are rules here.
-_OURS = {"P2SH": "P2SH", "DERSIG": "DERSIG", "CHECKLOCKTIMEVERIFY": "CLTV", "CHECKSEQUENCEVERIFY": "CSV"}
+_OURS = {
+    "P2SH": "P2SH", "DERSIG": "DERSIG", "NULLDUMMY": "NULLDUMMY", "CHECKLOCKTIMEVERIFY": "CLTV", "CHECKSEQUENCEVERIFY": "CSV",
+}  # fmt: skip
 #: Flags that refuse more by themselves, and change nothing else; and the errors by which they do.
 _POLICY: Dict[str, FrozenSet[str]] = {
     "STRICTENC": frozenset({"SIG_DER", "SIG_HASHTYPE", "PUBKEYTYPE"}), "LOW_S": frozenset({"SIG_DER", "SIG_HIGH_S"}),
-    "NULLDUMMY": frozenset({"SIG_NULLDUMMY"}), "SIGPUSHONLY": frozenset({"SIG_PUSHONLY"}),
+    "SIGPUSHONLY": frozenset({"SIG_PUSHONLY"}),
     # A number that isn't spelled shortest ends a script as one that is too long does.
     "MINIMALDATA": frozenset({"MINIMALDATA", "UNKNOWN_ERROR", "SCRIPTNUM"}),
     "DISCOURAGE_UPGRADABLE_NOPS": frozenset({"DISCOURAGE_UPGRADABLE_NOPS"}), "CLEANSTACK": frozenset({"CLEANSTACK"}),
@@ -39,6 +41,7 @@ _ERRORS = frozenset(
     "EVAL_FALSE OP_RETURN SCRIPT_SIZE PUSH_SIZE OP_COUNT STACK_SIZE SIG_COUNT PUBKEY_COUNT VERIFY EQUALVERIFY"
     " CHECKMULTISIGVERIFY CHECKSIGVERIFY NUMEQUALVERIFY BAD_OPCODE DISABLED_OPCODE INVALID_STACK_OPERATION"
     " INVALID_ALTSTACK_OPERATION UNBALANCED_CONDITIONAL NEGATIVE_LOCKTIME UNSATISFIED_LOCKTIME SIG_DER SIG_PUSHONLY"
+    " SIG_NULLDUMMY"
     " UNKNOWN_ERROR SCRIPTNUM".split()
 )
 

@@ -105,19 +105,23 @@ def echojson(node: Node, *given: Any) -> List[Any]:
     return list(given)
 
 
-#: The most blocks that a fee may be estimated for.
-MOST_BLOCKS = 1008
+#: The most blocks that a fee may be estimated for; of so many at least it is looked at what was paid.
+MOST_BLOCKS, LEAST_BLOCKS = 1008, 100
 
 
 @call("Util", "conf_target", "estimate_mode", needed=1, types=("number", "string"))
 def estimatesmartfee(node: Node, conf_target: Any, estimate_mode: Any) -> Object:
-    """What fee a transaction needs: there is no estimate, since none is asked for."""
+    """What fee for 1,000 bytes transactions paid that waited here and were mined of late; none is asked for."""
     if not 1 <= integer(conf_target) <= MOST_BLOCKS:
         raise RpcError(INVALID_PARAMETER, f"Invalid conf_target, must be between 1 and {MOST_BLOCKS}")
     if estimate_mode is not None and estimate_mode.lower() not in ("unset", "economical", "conservative"):
         message = 'Invalid estimate_mode parameter, must be one of: "unset", "economical", "conservative"'
         raise RpcError(INVALID_PARAMETER, message)
-    return {"errors": ["Insufficient data or no feerate found"], "blocks": 0}
+    with node.mempool.read():
+        found = node.mempool.estimate(max(integer(conf_target), LEAST_BLOCKS))
+    if found is None:
+        return {"errors": ["Insufficient data or no feerate found"], "blocks": 0}
+    return {"feerate": Amount(found), "blocks": integer(conf_target)}
 
 
 # ---- no peers

@@ -16,8 +16,8 @@ class ServedMempool(Mempool):
     """What waits on the active branch of a node. Who calls holds the node's turn, which is let go while coins are read, blocks
     are judged and bytes are read."""
 
-    def __init__(self, node: "Node", most: int = MOST_BYTES) -> None:
-        super().__init__(node.bench, most)
+    def __init__(self, node: "Node", most: int = MOST_BYTES, full_rbf: bool = False) -> None:
+        super().__init__(node.bench, most, full_rbf)
         self.node = node
         #: Counts what came and went, from 1 on.
         self.sequence = 1

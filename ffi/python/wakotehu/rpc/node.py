@@ -28,10 +28,13 @@ class Node:
     """The seats that calls are made on. A call waits for no other one, except for those that make blocks, and those
     that read all coins."""
 
-    def __init__(self, bench: NodeBench, most_waiting: int = MOST_BYTES, has_index: bool = False) -> None:
+    def __init__(
+        self, bench: NodeBench, most_waiting: int = MOST_BYTES, has_index: bool = False, full_rbf: bool = False
+    ) -> None:
         self.bench = bench
-        #: What waits to be mined.
-        self.mempool = ServedMempool(self, most_waiting)
+        #: What waits to be mined, and the file that keeps it beyond the server's end.
+        self.mempool = ServedMempool(self, most_waiting, full_rbf)
+        self.saves_to: Optional[str] = None
         #: Whether transactions are found by their ids alone (-txindex).
         self.has_index = has_index
         bench.moved = self._moved

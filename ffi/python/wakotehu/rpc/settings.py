@@ -11,10 +11,12 @@ TOPICS = ("hashblock", "hashtx", "rawblock", "rawtx", "sequence")
 #: What the file may set that the server has flags for. Those of the second are read in its section [regtest] alone.
 READ = (
     "rpcuser", "rpcpassword", "rpcauth", "rpccookiefile", "testactivationheight", "blocknotify", "maxmempool", "txindex",
-    "blockfilterindex",
+    "blockfilterindex", "mempoolfullrbf", "persistmempool", "acceptnonstdtxn",
     *(f"zmqpub{topic}{end}" for topic in TOPICS for end in ("", "hwm")),
 )  # fmt: skip
 READ_IN_SECTION = ("rpcport", "rpcbind")
+#: Those that are on or off.
+SWITCHES = ("txindex", "blockfilterindex", "mempoolfullrbf", "persistmempool", "acceptnonstdtxn")
 
 
 class BadSetting(Exception):
@@ -85,7 +87,7 @@ RULES: Dict[str, Rule] = {
         (
             "printtoconsole debug debugexclude loglevel logips logtimestamps logtimemicros logthreadnames"
             " logsourcelocations shrinkdebugfile disablewallet keypool addresstype changetype minrelaytxfee"
-            " acceptnonstdtxn persistmempool maxconnections"
+            " maxconnections"
             " peertimeout blocksonly uacomment par checkblockindex checkmempool checkblocks checklevel rpcdoc"
         ).split(),
         (_is_any, ""),
@@ -103,7 +105,7 @@ def expect(name: str, value: str) -> None:
 def positive(word: str) -> str:
     """A word of the command line; `-noNAME` is `-NAME=0`, as at bitcoind."""
     found = re.fullmatch(r"-{1,2}no([a-z]+)(?:=(.*))?", word, re.DOTALL)
-    if found is None or found[1] not in (*RULES, "txindex", "blockfilterindex"):
+    if found is None or found[1] not in (*RULES, *SWITCHES):
         return word
     return f"--{found[1]}={int(not is_on(found[2] or ''))}"
 

@@ -6,7 +6,7 @@ from ..chainstate import show
 from ..mempool import Waiting
 from .errors import INVALID_ADDRESS_OR_KEY, INVALID_PARAMETER, TYPE_ERROR, RpcError
 from .node import Node, call
-from .values import Amount, Object, array, boolean, digits, expect_member, integer, object_of
+from .values import Amount, Object, array, boolean, digits, expect, expect_member, integer, object_of
 
 GROUP = "Blockchain"
 #: What Bitcoin Core asks for at least, in satoshis for 1,000 bytes. Nothing is asked for here.
@@ -44,7 +44,7 @@ def _in_order(pool: Waiting) -> List[bytes]:
 
     def key(id: bytes) -> Any:
         entry = pool.entries[id]
-        return len(pool.ancestors(id)), -entry.fee / entry.size, [255 - byte for byte in id[::-1]]
+        return len(pool.ancestors(id)), -pool.paid(entry) / entry.size, [255 - byte for byte in id[::-1]]
 
     return sorted(pool.entries, key=key)
 
@@ -94,15 +94,15 @@ def _fields(pool: Waiting, id: bytes) -> Object:
     entry = pool.entries[id]
     above = [entry, *(pool.entries[it] for it in pool.ancestors(id))]
     below = [entry, *(pool.entries[it] for it in pool.descendants(id))]
-    fees = [sum(it.fee for it in some) for some in (above, below)]
+    paid, fees = pool.paid(entry), [sum(map(pool.paid, some)) for some in (above, below)]
     return {
         "fees": {
-            "base": Amount(entry.fee), "modified": Amount(entry.fee), "ancestor": Amount(fees[0]), "descendant": Amount(fees[1]),
+            "base": Amount(entry.fee), "modified": Amount(paid), "ancestor": Amount(fees[0]), "descendant": Amount(fees[1]),
         },  # fmt: skip
         "vsize": entry.size,
         "weight": 4 * entry.size,
         "fee": Amount(entry.fee),
-        "modifiedfee": Amount(entry.fee),
+        "modifiedfee": Amount(paid),
         "time": entry.time,
         "height": entry.height,
         "descendantcount": len(below),
@@ -117,6 +117,20 @@ def _fields(pool: Waiting, id: bytes) -> Object:
         "bip125-replaceable": pool.is_replaceable(id),
         "unbroadcast": entry.is_sent,
     }
+
+
+@call("Mining", "txid", "dummy", "fee_delta", needed=3)
+def prioritisetransaction(node: Node, txid: Any, dummy: Any, fee_delta: Any) -> bool:
+    """Has blocks that are made here take a transaction as if it paid so many satoshis more, or less."""
+    id, delta = digits(txid, "txid"), integer(fee_delta, 64)
+    if dummy is not None:
+        expect(dummy, "number")
+    if dummy is not None and float(dummy) != 0:
+        message = "Priority is no longer supported, dummy argument to prioritisetransaction must be 0."
+        raise RpcError(INVALID_PARAMETER, message)
+    with node.mempool.used():
+        node.mempool.prioritise(id, delta)
+    return True
 
 
 @call(GROUP, "outputs", needed=1)
