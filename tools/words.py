@@ -16,7 +16,7 @@ from sources.repository import ROOT, read
 
 BOOK = "docs/BOOK.md"
 # Of a page; RULES has a row for each rule, PROGRAM one for each option, results.md one for each measurement.
-LIMITS = {"all": 46_000, "README": 500, "sentence": 18, "crate": 400, "page": 2500, "answer": 60}
+LIMITS = {"all": 48_000, "README": 500, "sentence": 18, "crate": 400, "page": 2500, "answer": 60}
 LONG = ("docs/RULES.md", "docs/PROGRAM.md", "bench/results.md")
 # What is left of a paragraph is prose: no fences, tables, headings, pictures.
 FENCE = re.compile(r"^```.*?^```$", re.M | re.S)

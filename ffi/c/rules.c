@@ -94,8 +94,8 @@ static bool rows_fit(const void *rows, size_t count, size_t size) {
 
 /* Whether flags have a bit that is no rule's. */
 static bool has_unknown(uint32_t flags) {
-    return flags & ~(uint32_t)(WAKOTEHU_VERIFY_P2SH | WAKOTEHU_VERIFY_DERSIG | WAKOTEHU_VERIFY_CHECKLOCKTIMEVERIFY
-                               | WAKOTEHU_VERIFY_CHECKSEQUENCEVERIFY);
+    return flags & ~(uint32_t)(WAKOTEHU_VERIFY_P2SH | WAKOTEHU_VERIFY_DERSIG | WAKOTEHU_VERIFY_NULLDUMMY
+                               | WAKOTEHU_VERIFY_CHECKLOCKTIMEVERIFY | WAKOTEHU_VERIFY_CHECKSEQUENCEVERIFY);
 }
 
 /* Whether each flag is 0 or 1. */
@@ -413,6 +413,7 @@ static const struct {
     [WAKOTEHU_SCRIPT_UNSATISFIED_LOCKTIME] = {"UNSATISFIED_LOCKTIME", "Locktime requirement not satisfied"},
     [WAKOTEHU_SCRIPT_SIG_DER] = {"SIG_DER", "Non-canonical DER signature"},
     [WAKOTEHU_SCRIPT_SIG_PUSHONLY] = {"SIG_PUSHONLY", "Only push operators allowed in signatures"},
+    [WAKOTEHU_SCRIPT_SIG_NULLDUMMY] = {"SIG_NULLDUMMY", "Dummy CHECKMULTISIG argument must be zero"},
 };
 
 enum { SCRIPT_ERRORS = sizeof script_errors / sizeof *script_errors };

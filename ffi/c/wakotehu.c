@@ -657,8 +657,8 @@ wakotehu_code wakotehu_tx_free(wakotehu_tx tx) {
 
 /* Whether flags have a bit that is no rule's. */
 static bool has_unknown(uint32_t flags) {
-    return flags & ~(uint32_t)(WAKOTEHU_VERIFY_P2SH | WAKOTEHU_VERIFY_DERSIG | WAKOTEHU_VERIFY_CHECKLOCKTIMEVERIFY
-                               | WAKOTEHU_VERIFY_CHECKSEQUENCEVERIFY);
+    return flags & ~(uint32_t)(WAKOTEHU_VERIFY_P2SH | WAKOTEHU_VERIFY_DERSIG | WAKOTEHU_VERIFY_NULLDUMMY
+                               | WAKOTEHU_VERIFY_CHECKLOCKTIMEVERIFY | WAKOTEHU_VERIFY_CHECKSEQUENCEVERIFY);
 }
 
 static struct bytes bytes_of(const void *at, size_t length) { return (struct bytes){length ? at : no_bytes, length}; }

@@ -111,7 +111,7 @@ Question question_of(Source &source) {
     question.policy = source.take();
     question.tx = transaction(source);
     question.input = source.take() % question.tx.inputs.size();
-    question.flags = {(flags & 1) == 0, (flags & 2) == 0, (flags & 4) == 0, (flags & 8) == 0};
+    question.flags = {(flags & 1) == 0, (flags & 2) == 0, (flags & 4) == 0, (flags & 8) == 0, (flags & 32) != 0};
     question.told = flags & 16 ? 0 : 1000;
     return question;
 }

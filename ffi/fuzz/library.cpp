@@ -82,6 +82,7 @@ wakotehu_code by_need(const std::vector<Asked> &all, size_t told, const Call &ca
 
 uint32_t bits_of(const reading::Flags &flags) {
     return (flags.p2sh ? WAKOTEHU_VERIFY_P2SH : 0u) | (flags.dersig ? WAKOTEHU_VERIFY_DERSIG : 0u) |
+           (flags.nulldummy ? WAKOTEHU_VERIFY_NULLDUMMY : 0u) |
            (flags.cltv ? WAKOTEHU_VERIFY_CHECKLOCKTIMEVERIFY : 0u) | (flags.csv ? WAKOTEHU_VERIFY_CHECKSEQUENCEVERIFY : 0u);
 }
 

@@ -33,7 +33,7 @@ class Reading : public bitcoinfuzz::BaseModule {
         const reading::Tx tx = {1, {{{}, {}, 0xffffffff}}, {}, 0};
         const reading::Judge none = [](const Bytes &, const Bytes &, const reading::Id &) { return false; };
         reading::Stack stack;
-        const reading::Flags forced = {(flags & 1) != 0, (flags & 4) != 0, (flags & 0x200) != 0, (flags & 0x400) != 0};
+        const reading::Flags forced = {(flags & 1) != 0, (flags & 4) != 0, (flags & 0x200) != 0, (flags & 0x400) != 0, false};
         return reading::run(script, stack, {tx, 0, forced, none}) == reading::Error::OK;
     }
 

@@ -577,17 +577,19 @@ typedef enum {
     WAKOTEHU_SCRIPT_NEGATIVE_LOCKTIME = 20,
     WAKOTEHU_SCRIPT_UNSATISFIED_LOCKTIME = 21,
     WAKOTEHU_SCRIPT_SIG_DER = 23, /* a signature isn't strictly encoded (BIP 66) */
-    WAKOTEHU_SCRIPT_SIG_PUSHONLY = 25 /* of a script hash's input script (BIP 16) */
+    WAKOTEHU_SCRIPT_SIG_PUSHONLY = 25, /* of a script hash's input script (BIP 16) */
+    WAKOTEHU_SCRIPT_SIG_NULLDUMMY = 27 /* the element more that a CHECKMULTISIG takes isn't empty (BIP 147) */
 } wakotehu_script_error;
 
 /* A failure's name, as EVAL_FALSE, and Bitcoin Core's text for it; "OK" and "No error" of 0, "" of a number that is none. */
 const char *wakotehu_script_error_name(uint32_t error);
 const char *wakotehu_script_error_text(uint32_t error);
 
-/* Rules of scripts by Bitcoin Core's bits, for the calls below: BIP 16, BIP 66, BIP 65, BIP 112. Another bit is answered
- * WAKOTEHU_FLAGS. */
+/* Rules of scripts by Bitcoin Core's bits, for the calls below: BIP 16, BIP 66, BIP 147, BIP 65, BIP 112. Another bit is
+ * answered WAKOTEHU_FLAGS. */
 #define WAKOTEHU_VERIFY_P2SH 1
 #define WAKOTEHU_VERIFY_DERSIG 4
+#define WAKOTEHU_VERIFY_NULLDUMMY 16
 #define WAKOTEHU_VERIFY_CHECKLOCKTIMEVERIFY 512
 #define WAKOTEHU_VERIFY_CHECKSEQUENCEVERIFY 1024
 

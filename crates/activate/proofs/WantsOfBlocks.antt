@@ -10,7 +10,7 @@ use Rattle.block.specs.declared.block.Block.{Block}
 use Rattle.signatures.specs.Known.{Known, Under}
 use Rattle.signatures.specs.Triple.{Triple}
 use Rattle.queue.specs.FirstAnswer.{AreOfBoth}
-use Rattle.txn.specs.declared.tx.Tx.{Tx}
+use Rattle.txn.specs.Tx.{Tx}
 use Rattle.coins.specs.Coins.{Coins}
 use Rattle.hash.specs.declared.id.Id.{Id}
 use Rattle.rules.specs.declared.params.Params.{Params}

@@ -21,7 +21,10 @@ use workloads::inputs::spends::Spends;
 fn are_ready(jobs: &[Job]) -> bool
     ensures { IsTrue result → All HasInput jobs.now }
 {
-    jobs.iter().all(|job| job.input < job.tx.inputs.len())
+    jobs.iter().all(|job| {
+        let tx = job.tx;
+        job.input < tx.inputs.len()
+    })
 }
 
 /// Who runs scripts.

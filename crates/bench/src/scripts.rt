@@ -30,7 +30,8 @@ pub fn accepted(alloc: Global, jobs: &[Job], table: &Table) -> Result<u64, Bench
 }
 
 fn is_accepted(alloc: Global, job: &Job, table: &Table) -> Result<bool, BenchFault> {
-    if job.input >= job.tx.inputs.len() {
+    let tx = job.tx;
+    if job.input >= tx.inputs.len() {
         return Ok(false);
     }
     Ok(verify(alloc, job, table)?)

@@ -35,7 +35,8 @@ fn last_digest(alloc: Global, tx: &Tx, count: usize) -> Result<Check, BenchFault
 
 /// What a signature of an input signs, by ALL. Where there is no such input, zeros.
 fn shared_digest(midstates: &Midstates, input: usize, code: &[u8]) -> [u8; 32] {
-    if input < midstates.tx.inputs.len() {
+    let tx = midstates.tx;
+    if input < tx.inputs.len() {
         return midstates.digest(input, &[code], u32::from(ALL));
     }
     [0; 32]
@@ -78,7 +79,8 @@ fn jobs<'a>(
     spent: &'a [u8],
 ) -> Result<Vec<Job<'a>>, BenchFault> {
     let mut jobs = Vec::new(alloc);
-    for input in 0..midstates.tx.inputs.len() {
+    let tx = midstates.tx;
+    for input in 0..tx.inputs.len() {
         put(&mut jobs, shared_job(midstates, input, spent))?;
     }
     Ok(jobs)

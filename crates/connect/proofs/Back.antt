@@ -1,7 +1,7 @@
 -- Taking transactions back.
 use Rattle.std.proofs.Common.{◌≡◌, ℕ, zero, suc, ◌-◌, ◌<◌, List, [], ◌∷◌, length, get_or, map, take, drop, true, cond, Result, Ok, Err, IfOk, OnOk, sym, ap, subst, ◌∙◌, arith}
 use Rattle.hash.specs.declared.id.Id.{Id}
-use Rattle.txn.specs.declared.tx.Tx.{Tx}
+use Rattle.txn.specs.Tx.{Tx}
 use Rattle.txn.specs.Check.{is_coinbase, prevs}
 use Rattle.txn.specs.Identity.{id_of, ids_of}
 use Rattle.coins.specs.declared.coin.Coin.{Coin}

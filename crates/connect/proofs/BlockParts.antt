@@ -2,7 +2,7 @@
 use Rattle.std.proofs.Common.{◌≡◌, ◌<◌, ℕ, ℤ, false, ◌-◌, List, ◌∷◌, ◌++◌, length, take, drop, map, sym, ap, ap₂, subst, ◌∙◌}
 use Rattle.std.specs.Prelude.{get_or}
 use Rattle.std.specs.List.{flat_map, list_any}
-use Rattle.txn.specs.declared.tx.Tx.{Tx}
+use Rattle.txn.specs.Tx.{Tx}
 use Rattle.txn.specs.First.{first_broken}
 use Rattle.coins.specs.declared.coin.Coin.{Coin}
 use Rattle.coins.specs.Coins.{Coins, Layer}

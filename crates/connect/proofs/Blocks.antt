@@ -3,7 +3,7 @@ use Rattle.std.proofs.Common.{◌≡◌, Bool, true, false, cond, List, [], ◌�
 use Rattle.std.specs.Prelude.{int_lt}
 use Rattle.std.specs.Option.{option_or}
 use Rattle.std.specs.List.{flat_map, list_any}
-use Rattle.txn.specs.declared.tx.Tx.{Tx}
+use Rattle.txn.specs.Tx.{Tx}
 use Rattle.txn.specs.declared.reason.Reason.TheVariants.{OverwritesCoin, CoinbaseAmount}
 use Rattle.txn.specs.First.{Rules, first_broken}
 use Rattle.txn.specs.laws.First.{first_of_both}

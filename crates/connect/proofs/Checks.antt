@@ -6,7 +6,7 @@ use Rattle.std.specs.List.{zip, enumerate_from, AllZip}
 use Rattle.std.proofs.lemmas.List.{append-nil, map-append, length-map, length_push}
 use Rattle.std.proofs.lemmas.List.Elements.{All-push}
 use Rattle.txn.specs.declared.reason.Reason.TheVariants.{ScriptRefused}
-use Rattle.txn.specs.declared.tx.Tx.{Tx}
+use Rattle.txn.specs.Tx.{Tx}
 use Rattle.coins.specs.declared.coin.Coin.{Coin}
 use Rattle.interp.specs.declared.flags.Flags.{Flags}
 use Rattle.signatures.specs.Known.{Known}

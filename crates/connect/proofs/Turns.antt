@@ -6,7 +6,7 @@ use Rattle.std.specs.Option.{option_to_list}
 use Rattle.std.specs.List.{list_any, list_all}
 use Rattle.std.proofs.lemmas.Bool.{lt-ltb, le-ltb}
 use Rattle.txn.specs.declared.outpoint.OutPoint.{OutPoint}
-use Rattle.txn.specs.declared.tx.Tx.{Tx}
+use Rattle.txn.specs.Tx.{Tx}
 use Rattle.txn.specs.Check.{is_coinbase, total}
 use Rattle.locks.specs.Relative.{are_met}
 use Rattle.coins.specs.declared.coin.Coin.{Coin}

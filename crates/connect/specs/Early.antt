@@ -10,7 +10,7 @@ use Rattle.hash.specs.Id.{id_cmp}
 use Rattle.txn.specs.declared.outpoint.OutPoint.{OutPoint}
 use Rattle.txn.specs.declared.input.TxIn.{TxIn}
 use Rattle.txn.specs.declared.output.TxOut.{TxOut}
-use Rattle.txn.specs.declared.tx.Tx.{Tx}
+use Rattle.txn.specs.Tx.{Tx}
 use Rattle.txn.specs.Check.{is_coinbase}
 use Rattle.txn.specs.Identity.{id_of}
 use Rattle.script.specs.Kinds.{is_unspendable}

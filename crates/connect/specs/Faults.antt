@@ -4,7 +4,7 @@ use Rattle.std.specs.Prelude.{ℕ, ◌+◌, Bool, not, ◌&&◌, nat_lt, ℤ, po
 use Rattle.std.specs.List.{list_all, list_any, flat_map, range_with_len}
 use Rattle.std.specs.FinMap as coin_map
 use Rattle.txn.specs.declared.outpoint.OutPoint.{OutPoint}
-use Rattle.txn.specs.declared.tx.Tx.{Tx}
+use Rattle.txn.specs.Tx.{Tx}
 use Rattle.txn.specs.declared.reason.Reason.TheVariants.{TooManySigops, NonFinal, OverwritesCoin, InputsMissingOrSpent, PrematureCoinbaseSpend, InputsBelowOutputs, CoinbaseAmount}
 use Rattle.txn.specs.Check.{is_coinbase, total}
 use Rattle.txn.specs.First.{Rules}

@@ -1,7 +1,7 @@
 -- The scripts of a block, which run last.
 use Rattle.std.specs.Prelude.{◌≡◌, ◌⊎◌, ℕ, ◌<◌, Bool, true, false, List, [], ◌∷◌, length, map, Option, Some, None}
 use Rattle.std.specs.List.{flat_map, enumerate_from}
-use Rattle.txn.specs.declared.tx.Tx.{Tx}
+use Rattle.txn.specs.Tx.{Tx}
 use Rattle.txn.specs.declared.reason.Reason.{Reason}
 use Rattle.txn.specs.declared.reason.Reason.TheVariants.{ScriptRefused}
 use Rattle.txn.specs.First.{first_broken}
@@ -21,7 +21,7 @@ use Rattle.connect.specs.Faults.{connect_rules}
 
 -- the script rules that are in force where these rules of blocks are (`GetBlockScriptFlags`)
 abbrev pub flags_of : InForce → Flags
-flags_of rules = record { p2sh = true; dersig = rules.bip66; cltv = rules.bip65; csv = rules.csv }
+flags_of rules = record { p2sh = true; dersig = rules.bip66; cltv = rules.bip65; csv = rules.csv; nulldummy = rules.nulldummy }
 
 -- a script that has to accept, with the place of its transaction in the block
 abbrev pub Check : Type 0

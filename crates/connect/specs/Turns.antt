@@ -1,7 +1,7 @@
 -- The transactions of a block, one after the other.
 use Rattle.std.specs.Prelude.{ℕ, ◌+◌, List, [], ◌∷◌, map, drop, fold, sum_by}
 use Rattle.std.specs.List.{zip}
-use Rattle.txn.specs.declared.tx.Tx.{Tx}
+use Rattle.txn.specs.Tx.{Tx}
 use Rattle.txn.specs.Identity.{id_of}
 use Rattle.script.specs.Signatures.{p2sh_sigops}
 use Rattle.coins.specs.declared.coin.Coin.{Coin}

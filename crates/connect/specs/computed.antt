@@ -1,2 +1,3 @@
--- The same as functions.
+-- The same as functions, with a worked example.
 pub mod Scripts
+pub mod Examples

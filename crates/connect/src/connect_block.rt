@@ -247,7 +247,8 @@ fn connect_txs<'b, B: Base>(
         &ids[1..],
         coinbase.passed.counted,
     )?;
-    if is_overpaid(place.context.height, others.fees, txs[0].outputs.as_slice()) {
+    let first = &txs[0];
+    if is_overpaid(place.context.height, others.fees, first.outputs.as_slice()) {
         return Err(BlockFault::Broken(Reason::CoinbaseAmount));
     }
     Ok((others.layer, others.undo))

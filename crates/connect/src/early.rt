@@ -121,7 +121,7 @@ fn script_at<'l, B: Base>(
         script_at (B.coins base.entry.now) (take place txs.entry.now) at.now }
 {
     if let Some(coin) = base.get(at) {
-        return Some(coin.script.as_slice());
+        return Some(coin.script);
     }
     let output = txs
         .get(*places.get(&at.id)?)?

@@ -1,7 +1,7 @@
 //! What holds of connecting blocks.
 
 ghost use Rattle.std.specs.Prelude.{◌≡◌, ◌↔◌, ◌≤ℤ◌, ◌+ℤ◌, List, Option, None, pos};
-ghost use Rattle.txn.specs.declared.tx.Tx.{Tx};
+ghost use Rattle.txn.specs.Tx.{Tx};
 ghost use Rattle.txn.specs.declared.reason.Reason.{Reason};
 ghost use Rattle.txn.specs.First.{first_broken};
 ghost use Rattle.block.specs.declared.block.Block.{Block};

@@ -94,6 +94,7 @@ pub(crate) fn flags_of(rules: InForce) -> Flags
         dersig: rules.bip66,
         cltv: rules.bip65,
         csv: rules.csv,
+        nulldummy: rules.nulldummy,
     }
 }
 

@@ -237,6 +237,7 @@ pub fn heights_line(alloc: Global, params: &Params) -> Result<String, AllocError
         bip65,
         bip66,
         csv,
+        ..
     } = params;
     format!(in alloc; "{bip34},{bip65},{bip66},{csv}\n")
 }

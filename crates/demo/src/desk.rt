@@ -2,7 +2,7 @@
 
 use crate::request::Request;
 use activate::Chainstate;
-use coins::{Base, Coin};
+use coins::Coin;
 use connect::Env;
 use hash::Id;
 use model::{Bytes, Command, PreparedCommand, Reply, SubmitReply};

@@ -14,6 +14,7 @@ use Rattle.coins.specs.declared.coin.Coin.{Coin}
 use Rattle.coins.specs.Next.{IsNext}
 use Rattle.activate.specs.CoreState.{IsBlockOf}
 use Rattle.rules.specs.declared.params.Params.{Params}
+use Rattle.rules.specs.Params.{of_heights}
 use Rattle.tree.specs.declared.tip.Tip.{Tip}
 use Rattle.model.specs.declared.command.Command.{Command}
 use Rattle.model.specs.declared.reply.Reply.{Reply}
@@ -36,7 +37,7 @@ use Rattle.ffi.specs.Known.{Asked, IsLineTold}
 use Rattle.ffi.specs.SessionState.{IsLearntBy, IsNoStep, KeepsRules, SessionState, known_of, new_session, rules_of, rules_under, tree_of}
 
 abbrev pub params_of : Heights → Params
-params_of h = record { bip34 = h.bip34; bip65 = h.bip65; bip66 = h.bip66; csv = h.csv }
+params_of h = of_heights h.bip34 h.bip65 h.bip66 h.csv
 
 abbrev pub id_of : Name → Id
 id_of n = record { 0 = n.bytes }

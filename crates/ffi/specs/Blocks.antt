@@ -1,6 +1,6 @@
 -- What is reported about a block's bytes.
 use Rattle.std.specs.Prelude.{◌≡◌, ℕ, ◌⊎◌, List, length, map, Option, None, Some}
-use Rattle.txn.specs.declared.tx.Tx.{Tx}
+use Rattle.txn.specs.Tx.{Tx}
 use Rattle.txn.specs.Identity.{id_of}
 use Rattle.block.specs.declared.block.Block.{Block}
 use Rattle.ffi.specs.declared.answers.Made.{Made}

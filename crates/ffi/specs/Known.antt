@@ -1,6 +1,6 @@
 -- What is reported about an input by what is known of signatures: those of one table are valid, those of another aren't.
 use Rattle.std.specs.Prelude.{◌≡◌, ◌⊎◌, ◌↔◌, ℕ, ◌<◌, Bool, IsTrue, List, length}
-use Rattle.txn.specs.declared.tx.Tx.{Tx}
+use Rattle.txn.specs.Tx.{Tx}
 use Rattle.signatures.specs.Known.{Under, Verdicts, AreApart, verdict_in}
 use Rattle.signatures.specs.Lines.{IsFirstBad, IsTableOf}
 use Rattle.signatures.specs.Triple.{Triple}

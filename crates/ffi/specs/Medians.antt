@@ -3,7 +3,7 @@ use Rattle.std.specs.Prelude.{ℕ, ◌-◌, ◌==◌, ◌&&◌, Bool, not, nat_l
 use Rattle.std.specs.List.{list_any}
 use Rattle.std.specs.FinMap as coin_map
 use Rattle.txn.specs.declared.input.TxIn.{TxIn}
-use Rattle.txn.specs.declared.tx.Tx.{Tx}
+use Rattle.txn.specs.Tx.{Tx}
 use Rattle.txn.specs.Check.{is_coinbase}
 use Rattle.txn.specs.Sequence.{has_relative_locks, is_disabled, is_time}
 use Rattle.block.specs.declared.block.Block.{Block}

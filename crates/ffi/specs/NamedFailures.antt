@@ -1,7 +1,7 @@
 -- What is reported about scripts and inputs with the name of a failure, by what is known of signatures.
 use Rattle.std.specs.Prelude.{◌≡◌, ◌≢◌, ◌⊎◌, ℕ, ◌^◌, ◌/◌, ◌%◌, ◌==◌, ◌<◌, Bool, List, length, map, reverse, sum_by, Result, Ok, Err}
 use Rattle.std.specs.List.{flat_map}
-use Rattle.txn.specs.declared.tx.Tx.{Tx}
+use Rattle.txn.specs.Tx.{Tx}
 use Rattle.signatures.specs.Known.{Verdicts, AreApart, verdict_in}
 use Rattle.signatures.specs.Lines.{IsFirstBad}
 use Rattle.signatures.specs.Triple.{Triple}
@@ -11,7 +11,7 @@ use Rattle.interp.specs.Stack.{Stack}
 use Rattle.interp.specs.computed.NamedFailures.{verify_script}
 use Rattle.interp.specs.declared.flags.Flags.{Flags}
 use Rattle.interp.specs.declared.script_error.ScriptError.{ScriptError}
-use Rattle.interp.specs.declared.script_error.ScriptError.TheVariants.{UnknownError, EvalFalse, OpReturn, ScriptSize, PushSize, OpCount, StackSize, SigCount, PubkeyCount, Verify, EqualVerify, CheckMultisigVerify, CheckSigVerify, NumEqualVerify, BadOpcode, DisabledOpcode, InvalidStackOperation, InvalidAltstackOperation, UnbalancedConditional, NegativeLocktime, UnsatisfiedLocktime, SigDer, SigPushOnly}
+use Rattle.interp.specs.declared.script_error.ScriptError.TheVariants.{UnknownError, EvalFalse, OpReturn, ScriptSize, PushSize, OpCount, StackSize, SigCount, PubkeyCount, Verify, EqualVerify, CheckMultisigVerify, CheckSigVerify, NumEqualVerify, BadOpcode, DisabledOpcode, InvalidStackOperation, InvalidAltstackOperation, UnbalancedConditional, NegativeLocktime, UnsatisfiedLocktime, SigDer, SigPushOnly, SigNullDummy}
 use Rattle.ffi.specs.declared.shown.ShownStack.{ShownStack}
 use Rattle.ffi.specs.Known.{AreOf, Asked, IsLineTold, asked_of}
 use Rattle.ffi.specs.Tables.{line_of}
@@ -42,18 +42,19 @@ number_of NegativeLocktime = 20
 number_of UnsatisfiedLocktime = 21
 number_of SigDer = 23
 number_of SigPushOnly = 25
+number_of SigNullDummy = 27
 
 -- 0 where there is no failure
 abbrev pub failure_number : {A : Type 0} → Result A ScriptError → ℕ
 failure_number (Ok x) = 0
 failure_number (Err name) = number_of name
 
--- by Bitcoin Core's bits (`SCRIPT_VERIFY_P2SH`, `_DERSIG`, `_CHECKLOCKTIMEVERIFY`, `_CHECKSEQUENCEVERIFY`)
+-- by Bitcoin Core's bits (`SCRIPT_VERIFY_P2SH`, `_DERSIG`, `_NULLDUMMY`, `_CHECKLOCKTIMEVERIFY`, `_CHECKSEQUENCEVERIFY`)
 abbrev pub has_bit : ℕ → ℕ → Bool
 has_bit weight n = (n / weight) % 2 == 1
 
 abbrev pub flags_in : ℕ → Flags
-flags_in n = record { p2sh = has_bit 1 n; dersig = has_bit 4 n; cltv = has_bit 512 n; csv = has_bit 1024 n }
+flags_in n = record { p2sh = has_bit 1 n; dersig = has_bit 4 n; cltv = has_bit 512 n; csv = has_bit 1024 n; nulldummy = has_bit 16 n }
 
 -- ---- by what is known
 

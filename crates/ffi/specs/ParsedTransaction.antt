@@ -10,7 +10,7 @@ use Rattle.interp.specs.computed.NamedFailures.{Named, verify_script}
 use Rattle.interp.specs.declared.flags.Flags.{Flags}
 use Rattle.interp.specs.declared.script_error.ScriptError.{ScriptError}
 use Rattle.sighash.specs.declared.precomputed_tx.PrecomputedTx.{PrecomputedTx}
-use Rattle.txn.specs.declared.tx.Tx.{Tx}
+use Rattle.txn.specs.Tx.{Tx}
 use Rattle.txn.specs.Grammar.{transaction}
 use Rattle.txn.specs.computed.Reader.{tx_at}
 use Rattle.ffi.specs.declared.shown.AllQuestion.{AllQuestion}

@@ -1,11 +1,11 @@
 -- What is reported about scripts, the digests that signatures sign, and what an input may spend.
-use Rattle.std.specs.Prelude.{◌≡◌, ℕ, ℤ, ◌-◌, ◌==◌, ◌<◌, ◌⊎◌, ◌↔◌, Bool, true, IsTrue, not, List, [], ◌∷◌, length, take, drop, Option, None, Some}
+use Rattle.std.specs.Prelude.{◌≡◌, ℕ, ℤ, ◌-◌, ◌==◌, ◌<◌, ◌⊎◌, ◌↔◌, Bool, true, false, IsTrue, not, List, [], ◌∷◌, length, take, drop, Option, None, Some}
 use Rattle.script.specs.Kinds.{is_p2sh, is_push_only, is_unspendable}
 use Rattle.script.specs.Op.{number_of, pushed_of}
 use Rattle.script.specs.Ops.{ops}
 use Rattle.script.specs.Signatures.{sigops}
 use Rattle.script.specs.declared.signatures.Counting.TheVariants.{Plain, Accurate}
-use Rattle.txn.specs.declared.tx.Tx.{Tx}
+use Rattle.txn.specs.Tx.{Tx}
 use Rattle.sighash.specs.Digest.{digest_of}
 use Rattle.signatures.specs.Triple.{Triples}
 use Rattle.interp.specs.Rules.{Accepts}
@@ -50,7 +50,7 @@ IsOfInput tx input told kept result =
 
 -- rules whose numbers aren't 0
 abbrev pub flags_of : ShownFlags → Flags
-flags_of f = record { p2sh = true; dersig = not (f.dersig == 0); cltv = not (f.cltv == 0); csv = not (f.csv == 0) }
+flags_of f = record { p2sh = true; dersig = not (f.dersig == 0); cltv = not (f.cltv == 0); csv = not (f.csv == 0); nulldummy = false }
 
 -- whether the input may spend the script is reported, by these valid signatures
 pub record IsVerdict (tx : Tx) (input : ℕ) (spent : List ℕ) (flags : Flags) (triples : Triples) (told : ℕ) : Type 0 where

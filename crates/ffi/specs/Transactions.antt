@@ -1,6 +1,6 @@
 -- What is reported about a transaction.
 use Rattle.std.specs.Prelude.{◌≡◌, ℕ, ◌-◌, ◌^◌, ◌==◌, ◌&&◌, ◌⊎◌, not, nat_lt, if◌then◌else◌, List, length, map, min}
-use Rattle.txn.specs.declared.tx.Tx.{Tx}
+use Rattle.txn.specs.Tx.{Tx}
 use Rattle.txn.specs.Check.{is_coinbase, tx_rules}
 use Rattle.txn.specs.First.{first_broken}
 use Rattle.txn.specs.Grammar.{transaction}

@@ -3,7 +3,7 @@
 use Rattle.std.specs.Prelude.{◌≡◌, ℕ, ◌+◌, ◌<◌, ◌⊎◌, not, ◌==◌, Bool, true, false, ℤ, pos, negsuc, int_lt, if◌then◌else◌, List, ◌++◌, length, Option, None, Some}
 use Rattle.txn.specs.declared.outpoint.OutPoint.{OutPoint}
 use Rattle.txn.specs.declared.reason.Reason.{Reason}
-use Rattle.txn.specs.declared.tx.Tx.{Tx}
+use Rattle.txn.specs.Tx.{Tx}
 use Rattle.txn.specs.Check.{tx_rules}
 use Rattle.txn.specs.First.{first_broken}
 use Rattle.txn.specs.Reason.{number_of}

@@ -1,9 +1,11 @@
 //! What C is answered.
 
 ghost use Rattle.std.specs.Prelude.{◌≡◌};
+ghost use Rattle.ffi.specs.Answers.{params_of};
 ghost use Rattle.ffi.specs.Codes.{input_number, reason_number, reply_number, status_number, submit_number, transaction_number};
 
 use model::{MarkReply, Reply, SubmitReply};
+use rules::Params;
 use tree::{Status, Tip};
 use txn::Reason;
 
@@ -54,6 +56,15 @@ pub struct Heights {
     pub bip65: u32,
     pub bip66: u32,
     pub csv: u32,
+}
+
+impl Heights {
+    /// These four; what came later is never in force.
+    pub(crate) fn params(&self) -> Params
+        ensures { result ≡ params_of self.now }
+    {
+        Params::of_heights(self.bip34, self.bip65, self.bip66, self.csv)
+    }
 }
 
 /// An outpoint.

@@ -23,7 +23,7 @@ use block::{
 };
 use hash::Id;
 use locks::median;
-use rules::{Params, block_alone_with, context_fault};
+use rules::{block_alone_with, context_fault};
 use std::alloc::Global;
 use txn::ids;
 use wire::Memory;
@@ -114,12 +114,7 @@ pub extern "C" fn ffi_block_place(
     match read(alloc, bytes) {
         Err(fault) => refusal(fault),
         Ok(block) => {
-            let params = Params {
-                bip34: heights.bip34,
-                bip65: heights.bip65,
-                bip66: heights.bip66,
-                csv: heights.csv,
-            };
+            let params = heights.params();
             *reason = broken(context_fault(&block, height, median, now, &params));
             DONE
         }

@@ -22,7 +22,6 @@ use crate::slot::{Slot, put, take};
 use block::Bytes;
 use hash::Id;
 use model::Command;
-use rules::Params;
 use signatures::TableFault;
 use std::alloc::Global;
 
@@ -41,12 +40,7 @@ pub extern "C" fn ffi_open(
     if slot.is_full() {
         return FULL;
     }
-    let params = Params {
-        bip34: heights.bip34,
-        bip65: heights.bip65,
-        bip66: heights.bip66,
-        csv: heights.csv,
-    };
+    let params = heights.params();
     match Session::open(alloc, params, table) {
         Err(TableFault::Memory) => MEMORY,
         Err(TableFault::BadLine(number)) => {
@@ -72,12 +66,7 @@ pub extern "C" fn ffi_open_by_need(alloc: Global, slot: &mut Slot, heights: &Hei
     if slot.is_full() {
         return FULL;
     }
-    let params = Params {
-        bip34: heights.bip34,
-        bip65: heights.bip65,
-        bip66: heights.bip66,
-        csv: heights.csv,
-    };
+    let params = heights.params();
     match Session::open_by_need(alloc, params) {
         Err(_) => MEMORY,
         Ok(session) => match Box::new(alloc, session) {

@@ -7,7 +7,7 @@ ghost use Rattle.connect.specs.BlockContext.{setting};
 ghost use Rattle.ffi.specs.Medians.{lacks_medians, lacks_start, lacks_tx_start, spent_height};
 
 use block::Block;
-use coins::{Base, CoinMap};
+use coins::CoinMap;
 use connect::Context;
 use txn::sequence::{has_relative_locks, is_disabled, is_time};
 use txn::{OutPoint, Tx, TxIn};

@@ -128,6 +128,7 @@ pub(crate) fn flags_in(n: u32) -> Flags
         dersig: has_bit(4, n),
         cltv: has_bit(512, n),
         csv: has_bit(1024, n),
+        nulldummy: has_bit(16, n),
     }
 }
 
@@ -159,5 +160,6 @@ pub(crate) fn number_of(name: ScriptError) -> u32
         ScriptError::UnsatisfiedLocktime => 21,
         ScriptError::SigDer => 23,
         ScriptError::SigPushOnly => 25,
+        ScriptError::SigNullDummy => 27,
     }
 }

@@ -194,9 +194,10 @@ fn inputs_of(
     rows: &[InputRow],
     scripts: &mut Cursor,
 ) -> Result<Option<Inputs>, Memory>
-    ensures found { IfOk result (λ found. IfSome found (λ list. (map input_row list ≡ rows.now)
-        × (scripts.old ≡ input_scripts list ++ scripts.new))) }
-    ensures count { IfOk result (λ found. IfSome found (λ list.
+    ensures found { IfOk result (λ found. IfSome found (λ inputs.
+        (map input_row inputs.list ≡ rows.now)
+        × (scripts.old ≡ input_scripts inputs.list ++ scripts.new))) }
+    ensures count { IfOk result (λ found. IfSome found (λ inputs.
         length scripts.old ≡ input_bytes rows.now + length scripts.new)) }
     ensures none { IfOk result (λ found. IfNone found (length scripts.old < input_bytes rows.now)) }
 {

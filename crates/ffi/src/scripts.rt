@@ -157,6 +157,7 @@ pub(crate) fn flags_of(flags: &ShownFlags) -> Flags
         dersig: flags.dersig != 0,
         cltv: flags.cltv != 0,
         csv: flags.csv != 0,
+        nulldummy: false,
     }
 }
 

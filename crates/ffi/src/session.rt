@@ -27,7 +27,7 @@ use crate::answers::{CONTRADICTION, DONE, MEMORY, WANTS};
 use crate::signature_sources::Signatures;
 use activate::Chainstate;
 use block::Bytes;
-use coins::{Base, Coin};
+use coins::Coin;
 use connect::Env;
 use hash::Id;
 use model::{Command, PreparedCommand, Reply};

@@ -27,7 +27,7 @@ ghost use Rattle.ffi.specs.UtxoState.{IsBlockFault, IsLearnt, IsNoAnswer, IsTake
 use crate::answers::{CONTRADICTION, DONE, MEMORY, NONE, WANTS};
 use crate::medians::lacks_medians;
 use block::Block;
-use coins::{Base, Cache, Changes, Coin, CoinMap};
+use coins::{Cache, Changes, Coin, CoinMap};
 use connect::{BlockWithIds, Context, Env, check_tx_inputs, connect_in_layer, disconnect_in_layer};
 use hash::Id;
 use queue::{Alone, Open, Undecided};

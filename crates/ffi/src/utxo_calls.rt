@@ -31,7 +31,6 @@ use crate::utxo_slot::{UtxoSlot, put_utxo, take_utxo};
 use block::{Block, read};
 use coins::Coin;
 use connect::Context;
-use rules::Params;
 use std::alloc::Global;
 use txn::{Reason, Script, Tx};
 use wire::{Cursor, Memory};
@@ -318,12 +317,7 @@ fn connect_by(
     ensures { IsConnectTold (setting_of setting.now) block fault.old fault.new result
         utxo.old utxo.new }
 {
-    let params = Params {
-        bip34: setting.heights.bip34,
-        bip65: setting.heights.bip65,
-        bip66: setting.heights.bip66,
-        csv: setting.heights.csv,
-    };
+    let params = setting.heights.params();
     let context = Context {
         height: setting.height,
         cutoff: setting.cutoff,

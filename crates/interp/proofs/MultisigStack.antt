@@ -1,24 +1,27 @@
 -- What CHECKMULTISIG takes, by its places on the stack.
 use Rattle.std.specs.Prelude.{if◌then◌else◌}
-use Rattle.std.proofs.Common.{◌≡◌, ℕ, suc, ◌+◌, ◌≤◌, [], ◌∷◌, Bool, true, false, ltb, Option, Some, None, length, take, drop, refl, sym, ap, ◌∙◌, subst, ⊎_elim, length-drop, arith}
-use Rattle.std.proofs.lemmas.List.{drop-drop, drop_all, length-take-le}
+use Rattle.std.proofs.Common.{◌≡◌, ℕ, suc, ◌+◌, ◌≤◌, [], ◌∷◌, Bool, true, false, not, ◌||◌, ltb, eqb, Option, Some, None, length, take, drop, slice_get, refl, sym, ap, ◌∙◌, subst, ⊎_elim, length-drop, arith}
+use Rattle.std.proofs.lemmas.List.{drop-drop, drop_all, get_or-drop, length-take-le}
 use Rattle.std.proofs.lemmas.Bool.{cases_lt}
+use Rattle.std.proofs.lemmas.Option.{get_or_from_slice_get}
 use borrow.Author.Tests.{lt-ltb, le-ltb}
-use Rattle.std.specs.Option.{option_map}
+use Rattle.std.specs.Option.{option_map, option_map_or}
 use Rattle.signatures.specs.Known.{Known}
 use Rattle.interp.specs.Answer.{answer_map, on_some}
 use Rattle.interp.specs.Question.{Question}
-use Rattle.interp.specs.Stack.{Stack, Bytes}
+use Rattle.interp.specs.Stack.{Stack, Bytes, nth}
 use Rattle.interp.specs.Elements.{truth_bytes, natural_of}
 use Rattle.interp.specs.State.{State}
 use Rattle.interp.specs.Rules.{Taken, multisig_of}
-use Rattle.interp.specs.computed.Step.{after_multisig}
-use Rattle.interp.specs.inside.Multisig.{many, keys_in, signatures_in, counts_of, multisig_answer, after_counts}
+use Rattle.interp.specs.computed.Signatures.{may_be_dummy}
+use Rattle.interp.specs.computed.Step.{after_multisig, dummy_of}
+use Rattle.interp.specs.declared.flags.Flags.{Flags}
+use Rattle.interp.specs.inside.Multisig.{many, keys_in, signatures_in, dummy_in, counts_of, multisig_answer, after_counts}
 
 -- what is taken where there are so many keys and signatures
 abbrev taken_at : Stack → ℕ × ℕ → Taken
 taken_at s counts =
-    record { keys = keys_in counts.0 s; signatures = signatures_in counts.0 counts.1 s; below = drop (counts.0 + counts.1 + 3) s }
+    record { keys = keys_in counts.0 s; signatures = signatures_in counts.0 counts.1 s; dummy = dummy_in counts s; below = drop (counts.0 + counts.1 + 3) s }
 
 -- by numbers and places the same is found, with so many keys
 abbrev Agree : State → Type 0
@@ -56,8 +59,15 @@ module _ (s : State) (a : Bytes) (rest : Stack) (is : s.main ≡ a ∷ rest) (n 
           let three : n + m + 3 ≡ suc (n + suc (m + 1)) = omega arith in
           ap (λ k. drop k (a ∷ rest)) three ∙ sym (drop-drop (suc (m + 1)) n rest) ∙ ap (drop (suc (m + 1))) cut ∙ sym (drop-drop 1 m after) ∙ ap (drop 1) end
 
+      the-dummy : nth (a ∷ rest) (n + m + 2) ≡ extra
+      the-dummy =
+          let three : n + m + 2 ≡ suc (n + suc m) = omega arith in
+          let last : m ≡ m + 0 = omega arith in
+          ap (nth (a ∷ rest)) three ∙ sym (get_or-drop n rest (suc m) []) ∙ ap (λ tail. nth tail (suc m)) cut
+          ∙ ap (nth after) last ∙ sym (get_or-drop m after 0 []) ∙ ap (λ tail. nth tail 0) end
+
       abbrev found : Taken
-      found = record { keys = take n rest; signatures = take m after; below = below }
+      found = record { keys = take n rest; signatures = take m after; dummy = extra; below = below }
 
       taken-is : multisig_of s ≡ (if ltb 201 (s.count + n) then None else Some found)
       unfolding multisig_of
@@ -72,7 +82,7 @@ module _ (s : State) (a : Bytes) (rest : Stack) (is : s.main ≡ a ∷ rest) (n 
 
       same : (over : Bool) → (if over then None else Some found) ≡ option_map (taken_at s.main) (if over then None else Some (n, m))
       same true = refl
-      same false = rw (is, after-many, after-all) refl
+      same false = rw (is, after-many, the-dummy, after-all) refl
 
       so-many : (over : Bool) (counts : ℕ × ℕ) → (if over then None else Some (n, m)) ≡ Some counts → length (keys_in counts.0 s.main) ≡ counts.0
       so-many true counts e = cc
@@ -146,3 +156,37 @@ taking known q s = by (counts_of s) refl
     by (Some counts) e =
         rw (both.0, e)
         (ap (λ many. answer_map (option_map (λ valid. record s { main = truth_bytes valid ∷ drop (counts.0 + counts.1 + 3) s.main; count = s.count + many })) (multisig_answer known q s.code s.main counts)) (both.1 counts e))
+
+-- ---- the element more
+dummy-is : (s : State) (o : Option (ℕ × ℕ)) → counts_of s ≡ o → dummy_of s ≡ option_map_or (λ counts. dummy_in counts s.main) o []
+dummy-is s o e = ap (λ found. option_map_or (λ (taken : Taken). taken.dummy) found []) (agree s s.main refl).0 ∙ ap (λ found. option_map_or (λ (taken : Taken). taken.dummy) (option_map (taken_at s.main) found) []) e ∙ by o
+  where
+    by : (o : Option (ℕ × ℕ)) → option_map_or (λ (taken : Taken). taken.dummy) (option_map (taken_at s.main) o) [] ≡ option_map_or (λ counts. dummy_in counts s.main) o []
+    by None = refl
+    by (Some counts) = refl
+
+-- the rule is out of force
+pub dummy-free : (flags : Flags) (s : State) → flags.nulldummy ≡ false → true ≡ may_be_dummy flags (dummy_of s)
+unfolding may_be_dummy
+dummy-free flags s off = sym (ap (λ in_force. eqb (length (dummy_of s)) 0 || not in_force) off ∙ by (eqb (length (dummy_of s)) 0))
+  where
+    by : (empty : Bool) → (empty || true) ≡ true
+    by true = refl
+    by false = refl
+
+-- there is none
+pub dummy-missing : (flags : Flags) (s : State) → counts_of s ≡ None → true ≡ may_be_dummy flags (dummy_of s)
+unfolding may_be_dummy
+dummy-missing flags s none = sym (ap (λ dummy. eqb (length dummy) 0 || not flags.nulldummy) (dummy-is s None none))
+
+-- it is this one, and the rule is in force
+pub dummy-there : (flags : Flags) (s : State) (counts : ℕ × ℕ) (dummy : Bytes) → flags.nulldummy ≡ true → counts_of s ≡ Some counts → slice_get s.main (counts.0 + counts.1 + 2) ≡ Some dummy
+    → eqb (length dummy) 0 ≡ may_be_dummy flags (dummy_of s)
+unfolding may_be_dummy
+dummy-there flags s counts dummy on is at =
+    let same : dummy_of s ≡ dummy = dummy-is s (Some counts) is ∙ get_or_from_slice_get s.main (counts.0 + counts.1 + 2) dummy [] at in
+    sym (ap (λ found. eqb (length found) 0 || not flags.nulldummy) same ∙ ap (λ in_force. eqb (length dummy) 0 || not in_force) on ∙ by (eqb (length dummy) 0))
+  where
+    by : (empty : Bool) → (empty || false) ≡ empty
+    by true = refl
+    by false = refl

@@ -1,6 +1,6 @@
 -- What is asked of scripts: may this input of this transaction spend an output with this script, under these rules?
 use Rattle.std.specs.Prelude.{ℕ, List}
-use Rattle.txn.specs.declared.tx.Tx.{Tx}
+use Rattle.txn.specs.Tx.{Tx}
 use Rattle.interp.specs.declared.flags.Flags.{Flags}
 use Rattle.interp.specs.declared.job.Job.{Job}
 

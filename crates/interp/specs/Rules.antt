@@ -3,7 +3,7 @@ use Rattle.std.specs.Prelude.{◌≡◌, ◌⊎◌, ℕ, ◌+◌, ◌≤◌, Lis
 use Rattle.std.specs.List.{concat}
 use Rattle.script.specs.Ops.{ops, rest}
 use Rattle.script.specs.Kinds.{is_push_only, is_p2sh, max_script_size}
-use Rattle.txn.specs.declared.tx.Tx.{Tx}
+use Rattle.txn.specs.Tx.{Tx}
 use Rattle.txn.specs.declared.input.TxIn.{TxIn}
 use Rattle.signatures.specs.Triple.{Triples}
 use Rattle.interp.specs.Limits.{max_ops, max_keys, max_elements, max_number_size}
@@ -12,7 +12,7 @@ use Rattle.interp.specs.Elements.{truth_bytes, top_is_true, natural_of}
 use Rattle.interp.specs.ScriptContext.{Spending, spending_of}
 use Rattle.interp.specs.declared.flags.Flags.{Flags}
 use Rattle.interp.specs.State.{State, is_executing, start}
-use Rattle.interp.specs.Signatures.{signed_code, is_valid, MayBeTried, Tries}
+use Rattle.interp.specs.Signatures.{signed_code, is_valid, MayBeTried, MayBeDummy, Tries}
 use Rattle.interp.specs.Effects.{◌>>=◌, verify, on_main, ask_if}
 use Rattle.interp.specs.Row.{Check, Of, Sig, Multisig, Row, Does, Controls, Tests, AndVerifies, Separates, Asks, row_of}
 
@@ -23,10 +23,11 @@ ChecksOne p s t =
     (signature key : Bytes) × (rest : Stack) × (s.main ≡ key ∷ signature ∷ rest) × MayBeTried p.flags signature
     × (t ≡ record s { main = truth_bytes (is_valid p (signed_code s.code (signature ∷ [])) signature key) ∷ rest })
 
--- what CHECKMULTISIG takes: keys, signatures, and what lies below them
+-- what CHECKMULTISIG takes: keys, signatures and one element more, the dummy; and what lies below them
 pub record Taken : Type 0 where
   pub keys : List Bytes
   pub signatures : List Bytes
+  pub dummy : Bytes
   pub below : Stack
 
 -- a number from 0 to so many, and the others
@@ -47,8 +48,8 @@ multisig_of s = do
   keys ← pop_many n.0 n.1
   m ← pop_count n.0 keys.1
   signatures ← pop_many m.0 m.1
-  extra ← pop signatures.1
-  if nat_lt max_ops (s.count + n.0) then None else Some (record { keys = keys.0; signatures = signatures.0; below = extra.1 })
+  dummy ← pop signatures.1
+  if nat_lt max_ops (s.count + n.0) then None else Some (record { keys = keys.0; signatures = signatures.0; dummy = dummy.0; below = dummy.1 })
 
 -- the answer comes in their place, and the keys are counted
 abbrev pub with_answer : State → Taken → Bool → State
@@ -57,7 +58,8 @@ with_answer s taken answer = record s { main = truth_bytes answer ∷ taken.belo
 abbrev pub ChecksMany : Spending → State → State → Type 0
 ChecksMany p s t =
     (taken : Taken) × (answer : Bool) × (multisig_of s ≡ Some taken)
-    × Tries p (signed_code s.code taken.signatures) taken.signatures taken.keys answer × (t ≡ with_answer s taken answer)
+    × Tries p (signed_code s.code taken.signatures) taken.signatures taken.keys answer
+    × MayBeDummy p.flags taken.dummy × (t ≡ with_answer s taken answer)
 
 abbrev pub Checks : Spending → Check → State → State → Type 0
 Checks p (Of f) s t = on_main f s ≡ Some t

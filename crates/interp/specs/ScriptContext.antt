@@ -2,7 +2,7 @@
 -- valid signatures.
 use Rattle.std.specs.Prelude.{ℕ, slice_get}
 use Rattle.std.specs.Option.{option_map_or}
-use Rattle.txn.specs.declared.tx.Tx.{Tx}
+use Rattle.txn.specs.Tx.{Tx}
 use Rattle.signatures.specs.Triple.{Triples}
 use Rattle.interp.specs.declared.flags.Flags.{Flags}
 

@@ -44,6 +44,10 @@ is_valid p code signature key =
 abbrev pub MayBeTried : Flags → Bytes → Type 0
 MayBeTried flags signature = flags.dersig ≡ true → IsStrict signature
 
+-- BIP 147: where it is in force, the element more that CHECKMULTISIG takes is empty
+abbrev pub MayBeDummy : Flags → Bytes → Type 0
+MayBeDummy flags dummy = flags.nulldummy ≡ true → dummy ≡ []
+
 -- From the top down: a valid pair uses up both, another pair the key alone. F when more signatures than keys are
 -- left, T when no signature is left.
 abbrev pub Tries : Spending → List ℕ → List Bytes → List Bytes → Bool → Type 0

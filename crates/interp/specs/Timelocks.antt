@@ -1,7 +1,7 @@
 -- The opcodes of BIP 65 and BIP 112.
 use Rattle.std.specs.Prelude.{ℕ, ◌==◌, Bool, true, false, not, ◌&&◌, ◌||◌, nat_le}
 use Rattle.std.specs.Option.{option_map_or}
-use Rattle.txn.specs.declared.tx.Tx.{Tx}
+use Rattle.txn.specs.Tx.{Tx}
 use Rattle.txn.specs.LockTime.{is_height}
 use Rattle.txn.specs.Sequence.{sequence_final, has_relative_locks, is_disabled, is_time, duration}
 use Rattle.interp.specs.Limits.{max_lock_size}

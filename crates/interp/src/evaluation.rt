@@ -148,7 +148,8 @@ pub fn verify_script<K: KnowsSignatures>(
     requires { job.now.input < length job.now.tx.now.inputs }
     ensures { Tells result (verify_script (K.known known.now) (question_of job.now)) }
 {
-    let script = job.tx.inputs.as_slice()[job.input].script.as_slice();
+    let tx = job.tx;
+    let script = tx.inputs.as_slice()[job.input].script.as_slice();
     let named = eval_both(alloc, job, known, script)?;
     Ok(named)
 }

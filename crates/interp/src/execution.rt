@@ -11,12 +11,13 @@ ghost use Rattle.interp.specs.inside.Outcomes.{Gives};
 ghost use Rattle.interp.specs.State.{start, is_executing};
 ghost use Rattle.interp.specs.Timelocks.{locks_until, locks_for};
 ghost use Rattle.interp.specs.computed.OpcodeRow.{meaning, check_of};
+ghost use Rattle.interp.specs.computed.Signatures.{may_be_dummy};
 ghost use Rattle.interp.specs.Effects.{verify, on_main, to_alt, from_alt, branch, turn, close, ask};
 ghost use Rattle.interp.specs.Rules.{skipped, with_count};
-ghost use Rattle.interp.specs.computed.Step.{after_executing, after_multisig, after_test, after_acting, within_bounds, step_at, step, stack_left};
-ghost use Rattle.interp.specs.computed.NamedFailures.{named, or_else, executed, acted, step_named};
+ghost use Rattle.interp.specs.computed.Step.{after_executing, after_multisig, after_test, dummy_of, after_acting, within_bounds, step_at, step, stack_left};
+ghost use Rattle.interp.specs.computed.NamedFailures.{named, or_else, tested, executed, acted, step_named};
 ghost use Rattle.interp.specs.Failures.{name_at, verify_name};
-ghost use Rattle.interp.specs.Row.{push_row, row_at, row_of, Sig, AndVerifies};
+ghost use Rattle.interp.specs.Row.{push_row, row_at, row_of, Sig, Multisig, AndVerifies};
 
 use crate::changes::{apply, compare, push, verify};
 use crate::conditions::Conditions;
@@ -234,6 +235,38 @@ impl<'a> Execution<'a> {
         row!(alloc, self; counts.0 + counts.1 + 3 => answer(alloc, job, known, self.code, &self.main, counts)?)
     }
 
+    /// Whether the element more that CHECKMULTISIG takes is empty, where it has to be (BIP 147).
+    fn may_take_dummy(&self, job: &Job) -> bool
+        ensures { result ≡ may_be_dummy job.now.flags (dummy_of self.now) }
+    {
+        if !job.flags.nulldummy {
+            return true;
+        }
+        match self.counts() {
+            Some((keys, signatures)) => {
+                let dummy = self.main.at(keys + signatures + 2).as_slice();
+                dummy.is_empty()
+            }
+            None => true,
+        }
+    }
+
+    /// CHECKMULTISIG, which looks at the element more once its answer is there, whatever that is.
+    #[tactic(auto, unfolding(crate::specs::computed::Step::after_dummy))]
+    fn check_multisig_and_dummy<K: KnowsSignatures>(
+        &mut self,
+        alloc: Global,
+        job: &Job,
+        known: &K,
+    ) -> Result<bool, Unverified>
+        requires { job.now.input < length job.now.tx.now.inputs }
+        ensures { Goes result
+            (after_test (K.known known.now) (question_of job.now) Multisig self.old) self.new }
+    {
+        let may_take = self.may_take_dummy(job);
+        Ok(self.check_multisig(alloc, job, known)? && may_take)
+    }
+
     /// What leaves a truth or a number.
     fn test<K: KnowsSignatures>(
         &mut self,
@@ -250,7 +283,7 @@ impl<'a> Execution<'a> {
             Test::Equal => Ok(compare(alloc, &mut self.main)?),
             Test::NumEqual => Ok(join_numbers(alloc, &mut self.main, Binary::NumEqual)?),
             Test::CheckSig => self.check_sig(alloc, job, known),
-            Test::CheckMultisig => self.check_multisig(alloc, job, known),
+            Test::CheckMultisig => self.check_multisig_and_dummy(alloc, job, known),
         }
     }
 
@@ -446,7 +479,54 @@ impl<'a> Execution<'a> {
         Ok(self.act(alloc, job, known, after, number)? && self.is_bounded())
     }
 
-    /// What verifies is executed, else why it fails: `name` where its test can't be done.
+    /// CHECKMULTISIG, and why it fails where it does.
+    #[tactic(auto, unfolding(crate::specs::computed::Step::after_dummy))]
+    fn multisig_or_name<K: KnowsSignatures>(
+        &mut self,
+        alloc: Global,
+        job: &Job,
+        known: &K,
+        number: u8,
+    ) -> Result<Option<ScriptError>, Unverified>
+        requires { job.now.input < length job.now.tx.now.inputs }
+        ensures { GoesNamed result (tested (K.known known.now) (question_of job.now)
+            number Multisig self.old) self.new }
+    {
+        let name = name_at(number, &self.main, self.count);
+        let may_take = self.may_take_dummy(job);
+        if !self.check_multisig(alloc, job, known)? {
+            return Ok(Some(name));
+        }
+        if !may_take {
+            return Ok(Some(ScriptError::SigNullDummy));
+        }
+        Ok(None)
+    }
+
+    /// What leaves a truth or a number, and why it fails where it does.
+    fn test_or_name<K: KnowsSignatures>(
+        &mut self,
+        alloc: Global,
+        job: &Job,
+        known: &K,
+        by: Test,
+        number: u8,
+    ) -> Result<Option<ScriptError>, Unverified>
+        requires { job.now.input < length job.now.tx.now.inputs }
+        ensures { GoesNamed result (tested (K.known known.now) (question_of job.now)
+            number (check_of by) self.old) self.new }
+    {
+        if let Test::CheckMultisig = by {
+            return self.multisig_or_name(alloc, job, known, number);
+        }
+        let name = name_at(number, &self.main, self.count);
+        if !self.test(alloc, job, known, by)? {
+            return Ok(Some(name));
+        }
+        Ok(None)
+    }
+
+    /// What verifies is executed, else why it fails.
     fn verify_or_name<K: KnowsSignatures>(
         &mut self,
         alloc: Global,
@@ -459,8 +539,7 @@ impl<'a> Execution<'a> {
         ensures { (after : List ℕ) → GoesNamed result (executed (K.known known.now)
             (question_of job.now) after number (AndVerifies (check_of by)) self.old) self.new }
     {
-        let name = name_at(number, &self.main, self.count);
-        if !self.test(alloc, job, known, by)? {
+        if let Some(name) = self.test_or_name(alloc, job, known, by, number)? {
             return Ok(Some(name));
         }
         if !self.verify() {
@@ -483,6 +562,9 @@ impl<'a> Execution<'a> {
             after.now number (row_at number) self.old) self.new }
     {
         let op = op_of(number);
+        if let Op::Test(by) = op {
+            return self.test_or_name(alloc, job, known, by, number);
+        }
         if let Op::TestVerify(by) = op {
             return self.verify_or_name(alloc, job, known, by, number);
         }

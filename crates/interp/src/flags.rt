@@ -11,15 +11,18 @@ pub struct Flags {
     pub cltv: bool,
     /// The opcode b2 is CHECKSEQUENCEVERIFY (BIP 112), and else does nothing.
     pub csv: bool,
+    /// The element more that CHECKMULTISIG takes is empty (BIP 147).
+    pub nulldummy: bool,
 }
 
 impl Flags {
-    /// All of these rules are in force.
+    /// All rules that regtest has from its first block on: those of BIPs 16, 65, 66 and 112. That of BIP 147 isn't.
     pub const ALL: Flags = Flags {
         p2sh: true,
         dersig: true,
         cltv: true,
         csv: true,
+        nulldummy: false,
     };
 
     /// None of them is.
@@ -28,5 +31,6 @@ impl Flags {
         dersig: false,
         cltv: false,
         csv: false,
+        nulldummy: false,
     };
 }

@@ -7,7 +7,7 @@ ghost use Rattle.interp.specs.Stack.{Stack};
 ghost use Rattle.interp.specs.computed.Step.{outcome, verdict};
 ghost use Rattle.interp.specs.computed.NamedFailures.{eval_script, verify_script};
 ghost use Rattle.interp.specs.laws.FailureNames.{unnamed, passes};
-ghost use Rattle.txn.specs.declared.tx.Tx.{Tx};
+ghost use Rattle.txn.specs.Tx.{Tx};
 ghost use Rattle.signatures.specs.Triple.{Triples};
 ghost use Rattle.interp.specs.declared.flags.Flags.{Flags};
 ghost use Rattle.interp.specs.Rules.{Accepts};

@@ -52,6 +52,8 @@ pub enum ScriptError {
     SigDer,
     /// The input script of a script hash does more than push (BIP 16).
     SigPushOnly,
+    /// The element more that a CHECKMULTISIG takes isn't empty (BIP 147).
+    SigNullDummy,
 }
 
 impl fmt::Display for ScriptError {
@@ -84,6 +86,7 @@ impl fmt::Display for ScriptError {
             ScriptError::UnsatisfiedLocktime => "Locktime requirement not satisfied",
             ScriptError::SigDer => "Non-canonical DER signature",
             ScriptError::SigPushOnly => "Only push operators allowed in signatures",
+            ScriptError::SigNullDummy => "Dummy CHECKMULTISIG argument must be zero",
         })
     }
 }

@@ -18,7 +18,8 @@ fn sequence(job: &Job) -> u32
     requires { job.now.input < length job.now.tx.now.inputs }
     ensures { result ≡ sequence_of job.now.tx.now job.now.input }
 {
-    job.tx.inputs.as_slice()[job.input].sequence
+    let tx = job.tx;
+    tx.inputs.as_slice()[job.input].sequence
 }
 
 fn is_height(lock_time: u64) -> bool
@@ -33,7 +34,8 @@ fn locks_until(job: &Job, n: u64) -> bool
     requires { job.now.input < length job.now.tx.now.inputs }
     ensures { result ≡ locks_until job.now.tx.now job.now.input n }
 {
-    let lock_time = u64::from(job.tx.lock_time);
+    let tx = job.tx;
+    let lock_time = u64::from(tx.lock_time);
     is_height(n) == is_height(lock_time) && n <= lock_time && sequence(job) != SEQUENCE_FINAL
 }
 

@@ -44,7 +44,8 @@ pub fn verify_with<K: KnowsSignatures>(
     requires { job.now.input < length job.now.tx.now.inputs }
     ensures { Tells result (verdict (K.known known.now) (question_of job.now)) }
 {
-    let script = job.tx.inputs.as_slice()[job.input].script.as_slice();
+    let tx = job.tx;
+    let script = tx.inputs.as_slice()[job.input].script.as_slice();
     let yes = accepts(alloc, job, known, script)?;
     Ok(yes)
 }

@@ -2,12 +2,14 @@
 use Rattle.std.specs.Prelude.{◌≡◌, ℕ, ◌<◌, ◌^◌, List, ◌∷◌, ◌++◌}
 use Rattle.std.specs.Str.Parse.{IsNumeral, digits_value}
 use Rattle.rules.specs.declared.params.Params.{Params}
+use Rattle.rules.specs.Params.{of_heights}
 
 -- these are decimal digits, one at least, and spell a number of 32 bits
 abbrev pub IsNumber : List ℕ → ℕ → Type 0
 IsNumber digits n = IsNumeral 10 digits × (digits_value 10 digits ≡ n) × (n < 2 ^ 32)
 
--- the word is four numbers parted by commas: the heights of BIP 34, 65 and 66, and of BIPs 68, 112 and 113
+-- the word is four numbers parted by commas: the heights of BIP 34, 65 and 66, and of BIPs 68, 112 and 113; what came later
+-- is never in force
 pub record IsSpelling (word : List ℕ) (heights : Params) : Type 0 where
   pub first : List ℕ
   pub second : List ℕ
@@ -18,3 +20,4 @@ pub record IsSpelling (word : List ℕ) (heights : Params) : Type 0 where
   pub bip65 : IsNumber second heights.bip65
   pub bip66 : IsNumber third heights.bip66
   pub csv : IsNumber fourth heights.csv
+  pub no_other : heights ≡ of_heights heights.bip34 heights.bip65 heights.bip66 heights.csv

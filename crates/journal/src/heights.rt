@@ -16,12 +16,7 @@ pub fn read_heights(word: &str) -> Option<Params>
     let (bip65, rest) = front_height(rest)?;
     let (bip66, rest) = front_height(rest)?;
     let csv = height(rest)?;
-    Some(Params {
-        bip34,
-        bip65,
-        bip66,
-        csv,
-    })
+    Some(Params::of_heights(bip34, bip65, bip66, csv))
 }
 
 /// The height before the first comma, and the text behind it.

@@ -1,7 +1,7 @@
 -- Finality: whether the time has come before which a transaction asks to be in no block.
 use Rattle.std.specs.Prelude.{ℕ, ◌==◌, ◌||◌, Bool, nat_lt, if◌then◌else◌}
 use Rattle.std.specs.List.{list_all}
-use Rattle.txn.specs.declared.tx.Tx.{Tx}
+use Rattle.txn.specs.Tx.{Tx}
 use Rattle.txn.specs.LockTime.{is_height}
 use Rattle.txn.specs.Sequence.{sequence_final}
 

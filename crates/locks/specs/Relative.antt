@@ -1,7 +1,7 @@
 -- BIP 68: relative locks.
 use Rattle.std.specs.Prelude.{ℕ, ◌+◌, ◌*◌, ◌||◌, Bool, not, List, nat_le, if◌then◌else◌}
 use Rattle.std.specs.List.{list_all, zip}
-use Rattle.txn.specs.declared.tx.Tx.{Tx}
+use Rattle.txn.specs.Tx.{Tx}
 use Rattle.txn.specs.Sequence.{has_relative_locks, is_disabled, is_time, duration}
 use Rattle.locks.specs.declared.relative.LockStart.{LockStart}
 

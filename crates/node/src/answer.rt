@@ -2,7 +2,7 @@
 
 ghost use Rattle.std.specs.Prelude.{◌≡◌, IfOk};
 
-use coins::Coin;
+use coins::Lent;
 use std::alloc::Global;
 use txn::Script;
 use wire::Memory;
@@ -38,19 +38,20 @@ pub struct UnspentOutput {
 }
 
 impl UnspentOutput {
+    ghost use Rattle.coins.specs.Lent.{lent};
     ghost use Rattle.node.specs.Told.{unspent_output};
 
     /// What is told of a coin that so many blocks confirm.
     pub(crate) fn of(
         alloc: Global,
-        coin: &Coin,
+        coin: &Lent<'_>,
         confirmations: u32,
     ) -> Result<UnspentOutput, Memory>
-        ensures { IfOk result (λ output. output ≡ unspent_output (coin.now, confirmations)) }
+        ensures { IfOk result (λ output. output ≡ unspent_output (lent coin.now, confirmations)) }
     {
         Ok(UnspentOutput {
             value: coin.value,
-            script: coin.script.clone()?,
+            script: Script::from_slice(alloc, coin.script)?,
             height: coin.height,
             coinbase: coin.coinbase,
             confirmations,

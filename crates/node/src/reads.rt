@@ -27,7 +27,7 @@ fn output(alloc: Global, view: &View, outpoint: &OutPoint) -> Result<Option<Unsp
         found ≡ output_at o outpoint.now valid (state_after o valid es))) }
 {
     match view.unspent(outpoint) {
-        Some((coin, confirmations)) => Ok(Some(UnspentOutput::of(alloc, coin, confirmations)?)),
+        Some((coin, confirmations)) => Ok(Some(UnspentOutput::of(alloc, &coin, confirmations)?)),
         None => Ok(None),
     }
 }

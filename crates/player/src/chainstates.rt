@@ -43,13 +43,13 @@ impl<'t> Model for Whole<'t> {
 
 /// A chainstate that is lent its coins, which lie beside, and the table of all its steps.
 #[derive(Drop)]
-pub struct Lent<'t> {
+pub struct LentChain<'t> {
     core: Core,
     coins: CoinMap,
     table: &'t Table,
 }
 
-impl<'t> Model for Lent<'t> {
+impl<'t> Model for LentChain<'t> {
     ghost use Rattle.std.specs.Prelude.{ℕ, ◌≡◌};
     ghost use Rattle.activate.specs.CoreState.{Follows, coins_of};
 
@@ -64,7 +64,7 @@ impl<'t> Model for Lent<'t> {
 #[derive(Drop)]
 pub enum AnyChain<'t> {
     Whole(Whole<'t>),
-    Lent(Lent<'t>),
+    Lent(LentChain<'t>),
 }
 
 /// A chainstate after a command, and the reply, if there was memory for it.
@@ -120,12 +120,12 @@ impl<'t> Whole<'t> {
     }
 }
 
-impl<'t> Lent<'t> {
+impl<'t> LentChain<'t> {
     /// Genesis alone.
-    pub fn new(alloc: Global, params: Params, table: &'t Table) -> Result<Lent<'t>, Memory> {
+    pub fn new(alloc: Global, params: Params, table: &'t Table) -> Result<LentChain<'t>, Memory> {
         let core = Core::with(alloc, params)?;
         let coins = CoinMap::new(alloc);
-        Ok(Lent { core, coins, table })
+        Ok(LentChain { core, coins, table })
     }
 
     pub fn look(&self, alloc: Global) -> Result<ChainLook<'_>, Memory> {
@@ -149,7 +149,7 @@ impl<'t> Lent<'t> {
     where
         R: AllocGlobal + Env,
     {
-        let Lent {
+        let LentChain {
             mut core,
             mut coins,
             table,
@@ -159,12 +159,15 @@ impl<'t> Lent<'t> {
         let refused = end(rt);
         let Ok((reply, changes)) = done else {
             log.refused(refused, "step_over", "memory")?;
-            return Ok((AnyChain::Lent(Lent { core, coins, table }), None));
+            return Ok((AnyChain::Lent(LentChain { core, coins, table }), None));
         };
         log.refused(refused, "step_over", "answered")?;
         log.answer(&"changes", changes.len())?;
         lay(rt, &mut coins, &changes, desk, log)?;
-        Ok((AnyChain::Lent(Lent { core, coins, table }), Some(reply)))
+        Ok((
+            AnyChain::Lent(LentChain { core, coins, table }),
+            Some(reply),
+        ))
     }
 }
 
@@ -256,7 +259,7 @@ impl<'t> AnyChain<'t> {
         is_lent: bool,
     ) -> Result<AnyChain<'t>, Memory> {
         if is_lent {
-            return Ok(AnyChain::Lent(Lent::new(alloc, params, table)?));
+            return Ok(AnyChain::Lent(LentChain::new(alloc, params, table)?));
         }
         Ok(AnyChain::Whole(Whole::new(alloc, params, table)?))
     }

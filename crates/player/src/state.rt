@@ -2,7 +2,7 @@
 
 use crate::answer::CommandAnswer;
 use crate::chainstates::ChainLook;
-use coins::{Base, Coin, CoinMap};
+use coins::{Coin, CoinMap};
 use node::UnspentOutput;
 use scenario::{Call, Definitions, Request};
 use std::alloc::Global;

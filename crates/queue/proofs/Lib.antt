@@ -1,3 +1,4 @@
+pub mod Flags
 pub mod JobAnswers
 pub mod ClaimedPlaces
 pub mod ListOfJobs

@@ -1,6 +1,6 @@
 -- Which jobs of a list are accepted, and the first one that isn't.
 use Rattle.std.specs.Prelude.{◌≡◌, ℕ, ◌<◌, pos, Bool, true, List, [], length, map, get_or, Option, Some, None, slice_get}
-use Rattle.txn.specs.declared.tx.Tx.{Tx}
+use Rattle.txn.specs.Tx.{Tx}
 use Rattle.signatures.specs.Known.{Known, all_known, verdict_in}
 use Rattle.signatures.specs.laws.Growth.{Grows}
 use Rattle.signatures.specs.Triple.{Triple, Triples}
@@ -47,7 +47,7 @@ pub record Batch : Type 0 where
   pub spendings : List Spending
 
 abbrev pub tx_at : List Tx → ℕ → Tx
-tx_at txs place = get_or txs place record { version = pos 0; inputs = []; outputs = []; lock_time = 0 }
+tx_at txs place = get_or txs place record { version = pos 0; inputs = []; outputs = []; lock_time = 0; witnesses = [] }
 
 -- there are such a transaction and such an input of it
 abbrev pub IsThere : List Tx → Spending → Type 0

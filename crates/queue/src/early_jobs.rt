@@ -147,8 +147,9 @@ impl<'t> EarlyJobs<'t> {
         ensures { (q : Question) → slice_get (questions self.now) at ≡ Some q → result ≡ key_of q }
     {
         let listed = &self.list[at];
+        let tx = &self.txs[listed.place];
         Key {
-            outpoint: self.txs[listed.place].inputs.as_slice()[0].prev,
+            outpoint: tx.inputs.as_slice()[0].prev,
             input: listed.input,
         }
     }

@@ -69,7 +69,8 @@ impl<'a, S: Judges> Places for JobList<'a, S> {
 
     fn weight(&self, place: usize) -> usize {
         let job = &self.jobs[place];
-        let own = match job.tx.inputs.as_slice().get(job.input) {
+        let tx = job.tx;
+        let own = match tx.inputs.as_slice().get(job.input) {
             Some(input) => input.script.as_slice().len(),
             None => 0,
         };

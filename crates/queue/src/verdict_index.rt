@@ -135,8 +135,9 @@ fn key_of(job: &Job) -> Key
     requires { HasInput job.now }
     ensures { result ≡ key_of (question_of job.now) }
 {
+    let tx = job.tx;
     Key {
-        outpoint: job.tx.inputs.as_slice()[0].prev,
+        outpoint: tx.inputs.as_slice()[0].prev,
         input: job.input,
     }
 }

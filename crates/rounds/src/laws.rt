@@ -1,7 +1,7 @@
 //! What holds of rounds.
 
 ghost use Rattle.std.specs.Prelude.{◌≤◌, ◌*◌, All, List, length};
-ghost use Rattle.txn.specs.declared.tx.Tx.{Tx};
+ghost use Rattle.txn.specs.Tx.{Tx};
 ghost use Rattle.signatures.specs.Known.{Agrees, Known};
 ghost use Rattle.signatures.specs.Triple.{Triples};
 ghost use Rattle.interp.specs.Question.{Question};

@@ -4,7 +4,7 @@ use Rattle.std.proofs.Math.Seq.{drop-cons}
 use Rattle.std.specs.List.{flat_map}
 use Rattle.std.specs.Option.{option_or}
 use Rattle.txn.specs.declared.reason.Reason.{Reason}
-use Rattle.txn.specs.declared.tx.Tx.{Tx}
+use Rattle.txn.specs.Tx.{Tx}
 use Rattle.txn.specs.Check.{tx_rules}
 use Rattle.txn.specs.First.{Rules, first_broken}
 use Rattle.txn.specs.laws.First.{first_of_both}

@@ -4,7 +4,7 @@ use Rattle.std.specs.List.{list_any, flat_map}
 use Rattle.hash.specs.Id.{same_id}
 use Rattle.script.specs.Signatures.{sigops}
 use Rattle.script.specs.declared.signatures.Counting.TheVariants.{Plain}
-use Rattle.txn.specs.declared.tx.Tx.{Tx}
+use Rattle.txn.specs.Tx.{Tx}
 use Rattle.txn.specs.declared.reason.Reason.TheVariants.{HighHash, BadMerkleRoot, DuplicateTransactions, BadBlockLength, CoinbaseMissing, CoinbaseMultiple, TooManySigops}
 use Rattle.txn.specs.Check.{is_coinbase, tx_rules}
 use Rattle.txn.specs.First.{Rules}

@@ -2,7 +2,7 @@
 use Rattle.std.specs.Prelude.{ℕ, ◌+◌, ◌&&◌, List, [], ◌∷◌, length, nat_le, pos, if◌then◌else◌, ◌==◌, not, nat_lt, ◌++◌}
 use Rattle.script.specs.Num.{shortest_bytes}
 use Rattle.std.specs.List.{list_all, starts_with}
-use Rattle.txn.specs.declared.tx.Tx.{Tx}
+use Rattle.txn.specs.Tx.{Tx}
 use Rattle.txn.specs.declared.reason.Reason.TheVariants.{WrongBits, TimeTooOld, TimeTooNew, BadVersion, NonFinal, CoinbaseHeight}
 use Rattle.block.specs.declared.header.Header.{Header}
 use Rattle.block.specs.declared.block.Block.{Block}

@@ -1,3 +1,4 @@
 pub mod Alone
 pub mod Context
+pub mod Deployment
 pub mod Params

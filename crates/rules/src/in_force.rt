@@ -15,6 +15,8 @@ pub struct InForce {
     /// BIPs 68, 112 and 113: relative locks, CHECKSEQUENCEVERIFY, and finality by the median time past of the
     /// parent in place of the block's own time.
     pub csv: bool,
+    /// BIP 147: the element more that CHECKMULTISIG takes is empty.
+    pub nulldummy: bool,
 }
 
 impl InForce {

@@ -51,6 +51,7 @@ impl Facts<'_> {
             bip65,
             bip66,
             csv,
+            ..
         } = self.params;
         Info {
             program: NAME,

@@ -6,7 +6,7 @@ use Rattle.std.specs.FinMap.{get-empty}
 use Rattle.hash.specs.declared.id.Id.{Id}
 use Rattle.txn.specs.declared.outpoint.OutPoint.{OutPoint}
 use Rattle.txn.specs.declared.input.TxIn.{TxIn}
-use Rattle.txn.specs.declared.tx.Tx.{Tx}
+use Rattle.txn.specs.Tx.{Tx}
 use Rattle.txn.specs.Check.{is_only_null, prevs}
 use Rattle.txn.specs.Coinbase.{null}
 use Rattle.coins.specs.Coins.{Coins, outpoint_cmp, same}

@@ -48,7 +48,11 @@ fn transaction(alloc: Global, count: usize) -> Result<Tx, AllocError> {
 fn early<'t>(alloc: Global, txs: &'t [Tx], spent: &[&[u8]]) -> Result<EarlyJobs<'t>, Memory> {
     let mut jobs = EarlyJobs::new(alloc, txs, Flags::ALL);
     for (input, script) in spent.iter().enumerate() {
-        if !txs.is_empty() && input < txs[0].inputs.len() {
+        if txs.is_empty() {
+            break;
+        }
+        let tx = &txs[0];
+        if input < tx.inputs.len() {
             jobs.push(0, input, Vec::from_slice(alloc, *script)?)?;
         }
     }
@@ -214,7 +218,10 @@ where
 fn are_ready(jobs: &[Job]) -> bool
     ensures { IsTrue result → All HasInput jobs.now }
 {
-    jobs.iter().all(|job| job.input < job.tx.inputs.len())
+    jobs.iter().all(|job| {
+        let tx = job.tx;
+        job.input < tx.inputs.len()
+    })
 }
 
 /// The least job that isn't accepted, where each is compared by itself with the verdicts.

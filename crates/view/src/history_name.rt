@@ -12,10 +12,11 @@ pub trait Naming: Send + Sync {
 
 impl Naming for Brand {
     ghost use Rattle.std.specs.Prelude.{None};
+    ghost use Rattle.rules.specs.Params.{of_heights};
 
     ghost origin = { record {
       book = record { number = 0; log_name = 0; cells_name = 0 };
-      params = record { bip34 = 0; bip65 = 0; bip66 = 0; csv = 0 };
+      params = of_heights 0 0 0 0;
       table = None;
       seats = 0;
     } };

@@ -1,6 +1,7 @@
 //! What a reader reads from the view that it has entered.
 
 ghost use Rattle.std.specs.Prelude.{◌≡◌, ◌<◌, IfSome, MatchOption, None, Some, length, map};
+ghost use Rattle.coins.specs.Lent.{lent};
 ghost use Rattle.model.specs.Regtest.{regtest};
 ghost use Rattle.model.specs.Chainstate.{confirmations};
 ghost use Rattle.model.specs.Settle.{active};
@@ -15,7 +16,7 @@ use crate::chain_info::ChainInfo;
 use crate::history_view::View;
 use crate::seen_history::SeenHistory;
 use crate::shared_entry::SharedEntry;
-use coins::{Base, Coin, CoinMap};
+use coins::{CoinMap, Lent};
 use hash::Id;
 use tree::Tip;
 use txn::OutPoint;
@@ -93,15 +94,15 @@ impl View {
     }
 
     /// The coin at an outpoint, lent, and how many blocks confirm it (Bitcoin Core's `gettxout`).
-    pub fn unspent(&self, outpoint: &OutPoint) -> Option<(&Coin, u32)>
+    pub fn unspent(&self, outpoint: &OutPoint) -> Option<(Lent<'_>, u32)>
         requires { IsExact self.now }
         ensures { let o = self.now.origin in let es = self.now.journal in
             Under (known_in o es) (λ valid.
             let found = (machine o valid).coin (state_after o valid es) outpoint.now in
-            MatchOption result (found ≡ None) (λ x. found ≡ Some (x.0.now, x.1))) }
+            MatchOption result (found ≡ None) (λ x. found ≡ Some (lent x.0, x.1))) }
     {
         match self.coins.get(outpoint) {
-            Some(coin) => Some((coin, self.confirmations(coin.height))),
+            Some(coin) => Some((coin.lend(), self.confirmations(coin.height))),
             None => None,
         }
     }

@@ -20,7 +20,8 @@ static const char *const OUTCOME_NAMES[OUTCOMES] = {
     "goes on", "UNKNOWN_ERROR", "EVAL_FALSE", "OP_RETURN", "SCRIPT_SIZE", "PUSH_SIZE", "OP_COUNT", "STACK_SIZE",
     "SIG_COUNT", "PUBKEY_COUNT", "VERIFY", "EQUALVERIFY", "CHECKMULTISIGVERIFY", "CHECKSIGVERIFY", "NUMEQUALVERIFY",
     "BAD_OPCODE", "DISABLED_OPCODE", "INVALID_STACK_OPERATION", "INVALID_ALTSTACK_OPERATION", "UNBALANCED_CONDITIONAL",
-    "NEGATIVE_LOCKTIME", "UNSATISFIED_LOCKTIME", "?", "SIG_DER", "?", "SIG_PUSHONLY", "is skipped",
+    "NEGATIVE_LOCKTIME", "UNSATISFIED_LOCKTIME", "?", "SIG_DER", "?", "SIG_PUSHONLY", "?",
+    "SIG_NULLDUMMY", "is skipped",
 };
 
 uint64_t first_met = 0;
@@ -33,11 +34,11 @@ const char *outcome_name(uint32_t outcome) { return OUTCOME_NAMES[outcome]; }
  * 0. Of numbers without a row none fails. */
 struct Outcomes {
     uint8_t first, last;
-    uint32_t failures[7];
+    uint32_t failures[8];
 };
 
 constexpr uint32_t NUMBER = 1, RETURNS = 3, BAD = 15, DISABLED = 16, STACK = 17, ALTERNATIVE = 18, CONDITION = 19;
-constexpr uint32_t SIG_COUNT = 8, PUBKEY_COUNT = 9, SIG_DER = 23, NEGATIVE = 20, UNSATISFIED = 21;
+constexpr uint32_t SIG_COUNT = 8, PUBKEY_COUNT = 9, SIG_DER = 23, NULL_DUMMY = 27, NEGATIVE = 20, UNSATISFIED = 21;
 
 static const Outcomes ROWS[] = {
     {0x50, 0x50, {BAD}},
@@ -69,8 +70,8 @@ static const Outcomes ROWS[] = {
     {0xa6, 0xaa, {STACK}},
     {0xac, 0xac, {STACK, SIG_DER}},
     {0xad, 0xad, {STACK, SIG_DER, 13}},
-    {0xae, 0xae, {STACK, NUMBER, SIG_COUNT, PUBKEY_COUNT, SIG_DER}},
-    {0xaf, 0xaf, {STACK, NUMBER, SIG_COUNT, PUBKEY_COUNT, SIG_DER, 12}},
+    {0xae, 0xae, {STACK, NUMBER, SIG_COUNT, PUBKEY_COUNT, SIG_DER, NULL_DUMMY}},
+    {0xaf, 0xaf, {STACK, NUMBER, SIG_COUNT, PUBKEY_COUNT, SIG_DER, NULL_DUMMY, 12}},
     {0xb1, 0xb2, {STACK, NUMBER, NEGATIVE, UNSATISFIED}},
     {0xba, 0xff, {BAD}},
 };
@@ -91,7 +92,7 @@ static bool is_case(uint32_t number, uint32_t outcome) {
         return !fails_anywhere;
     if (outcome == 0)
         return first != BAD && first != RETURNS && !fails_anywhere;
-    return row && std::count(row->failures, row->failures + 7, outcome) > 0;
+    return row && std::count(row->failures, row->failures + 8, outcome) > 0;
 }
 
 static void met_limit(uint32_t error) {

@@ -26,7 +26,7 @@ extern uint64_t first_met;
     } while (0)
 
 /* What an opcode comes to: it goes on (0), fails by a number of Bitcoin Core's, or is in a branch that isn't taken. */
-constexpr uint32_t SKIPPED = 26, OUTCOMES = 27;
+constexpr uint32_t SKIPPED = 28, OUTCOMES = 29;
 const char *outcome_name(uint32_t outcome);
 
 /* Each pair that the table of opcodes allows is a case. */

@@ -274,7 +274,7 @@ Refusal Chain::connect(const Block &block, size_t parent, uint32_t height, Coins
         paid += output.value;
     if (paid > subsidy(height) + fees + planted(11))
         REFUSE("bad-cb-amount");
-    const Flags flags = {true, height >= heights.bip66, height >= heights.bip65, height >= heights.csv};
+    const Flags flags = {true, height >= heights.bip66, height >= heights.bip65, height >= heights.csv, false};
     for (const Job &job : jobs)
         if (verify(job.spent, {block.txs[job.tx], job.input, flags, judge}) != Error::OK) {
             MET("connect: blk-bad-inputs");

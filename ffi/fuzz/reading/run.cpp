@@ -421,6 +421,8 @@ bool Run::check_multisig() {
         MET("CHECKMULTISIG: more signatures than keys are left");
     else
         MET("CHECKMULTISIG: no signature is left");
+    if (spending.flags.nulldummy && !taken.back().empty())
+        throw Error::SIG_NULLDUMMY;
     return right == signatures;
 }
 

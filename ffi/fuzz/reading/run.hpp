@@ -14,14 +14,14 @@ enum class Error : uint32_t {
     SIG_COUNT = 8, PUBKEY_COUNT = 9, VERIFY = 10, EQUALVERIFY = 11, CHECKMULTISIGVERIFY = 12, CHECKSIGVERIFY = 13,
     NUMEQUALVERIFY = 14, BAD_OPCODE = 15, DISABLED_OPCODE = 16, INVALID_STACK_OPERATION = 17,
     INVALID_ALTSTACK_OPERATION = 18, UNBALANCED_CONDITIONAL = 19, NEGATIVE_LOCKTIME = 20, UNSATISFIED_LOCKTIME = 21,
-    SIG_DER = 23, SIG_PUSHONLY = 25,
+    SIG_DER = 23, SIG_PUSHONLY = 25, SIG_NULLDUMMY = 27,
 };
 
 /* Whether a signature, without its hash type, is valid for a key and a digest. */
 using Judge = std::function<bool(const Bytes &key, const Bytes &signature, const Id &digest)>;
 
 struct Flags {
-    bool p2sh, dersig, cltv, csv;
+    bool p2sh, dersig, cltv, csv, nulldummy;
 };
 
 /* The input that spends, with the rules in force. */

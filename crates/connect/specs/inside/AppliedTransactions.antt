@@ -1,7 +1,7 @@
 -- Transactions that were applied one after the other.
 use Rattle.std.specs.Prelude.{◌≡◌, ℕ, true, List, ◌∷◌, map}
 use Rattle.std.specs.List.{AllByRecursion}
-use Rattle.txn.specs.declared.tx.Tx.{Tx}
+use Rattle.txn.specs.Tx.{Tx}
 use Rattle.txn.specs.Check.{is_coinbase}
 use Rattle.txn.specs.Identity.{id_of}
 use Rattle.coins.specs.declared.coin.Coin.{Coin}

@@ -1,7 +1,7 @@
 -- What the functions that test a transaction take and give.
 use Rattle.std.specs.Prelude.{◌≡◌, ℕ, ℤ, ◌≤◌, ◌≤ℤ◌, ◌^◌, neg_ℤ, pos, List, length, map, Option, None, Some}
 use Rattle.std.specs.List.{IsDistinct, flat_map}
-use Rattle.txn.specs.declared.tx.Tx.{Tx}
+use Rattle.txn.specs.Tx.{Tx}
 use Rattle.txn.specs.declared.reason.Reason.{Reason}
 use Rattle.txn.specs.First.{first_broken}
 use Rattle.coins.specs.declared.coin.Coin.{Coin}

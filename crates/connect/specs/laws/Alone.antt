@@ -8,7 +8,7 @@ use Rattle.std.proofs.lemmas.List.Sums.{sum_by-cons}
 use Rattle.txn.specs.declared.outpoint.OutPoint.{OutPoint}
 use Rattle.txn.specs.declared.input.TxIn.{TxIn}
 use Rattle.txn.specs.declared.output.TxOut.{TxOut}
-use Rattle.txn.specs.declared.tx.Tx.{Tx}
+use Rattle.txn.specs.Tx.{Tx}
 use Rattle.txn.specs.declared.reason.Reason.{Reason}
 use Rattle.txn.specs.declared.reason.Reason.TheVariants.{HighHash, BadMerkleRoot, DuplicateTransactions, BadBlockLength, CoinbaseMissing, CoinbaseMultiple, NoInputs, NoOutputs, DuplicateInputs, CoinbaseLength, NullPrevout, TooManySigops}
 use Rattle.txn.specs.Check.{same_outpoint, has_twice, prevs, is_coinbase, is_null, fits_coinbase, first_script, output_rules, tx_rules}

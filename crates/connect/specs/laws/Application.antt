@@ -5,7 +5,7 @@ use Rattle.std.specs.List.{list_all, list_any, flat_map, range_with_len, AllByRe
 use Rattle.std.proofs.lemmas.Bool.{cases_order}
 use Rattle.std.specs.FinMap as coin_map
 use Rattle.txn.specs.declared.outpoint.OutPoint.{OutPoint}
-use Rattle.txn.specs.declared.tx.Tx.{Tx}
+use Rattle.txn.specs.Tx.{Tx}
 use Rattle.txn.specs.declared.reason.Reason.TheVariants.{OverwritesCoin, CoinbaseAmount}
 use Rattle.txn.specs.First.{Rules, first_broken}
 use Rattle.block.specs.declared.block.Block.{Block}

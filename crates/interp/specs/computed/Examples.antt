@@ -1,18 +1,19 @@
 -- Worked rows: what the definitions compute of some scripts, whatever the transaction.
-use Rattle.std.specs.Prelude.{◌≡◌, [], ◌∷◌, Some, None, true, false, refl}
+use Rattle.std.specs.Prelude.{◌≡◌, ℕ, List, [], ◌∷◌, Some, None, Bool, true, false, refl, if◌then◌else◌}
+use Rattle.txn.specs.Tx.{Tx}
 use Rattle.script.specs.Op.{pushed_of}
 use Rattle.script.specs.Ops.{ops, operand_len, rest}
 use Rattle.script.specs.Num.{operand, num_value, shortest_bytes, shortest_bytes_with}
 use Rattle.interp.specs.Elements.{truth}
 use Rattle.signatures.specs.Known.{Known}
 use Rattle.interp.specs.Answer.{Says}
-use Rattle.interp.specs.Question.{Question}
-use Rattle.interp.specs.computed.Signatures.{pairs_verdict}
+use Rattle.interp.specs.Question.{Question, question}
+use Rattle.interp.specs.computed.Signatures.{may_be_dummy, pairs_verdict}
 use Rattle.interp.specs.Row.{row_at, row_of, push_row}
 use Rattle.interp.specs.Effects.{moves, pop_number, one_number, two_numbers, pop_place}
 use Rattle.interp.specs.Effects as effects
 use Rattle.interp.specs.Rules.{multisig_of, with_count}
-use Rattle.interp.specs.computed.Step.{after_multisig, after_acting, within_bounds, step_at, step, run, outcome}
+use Rattle.interp.specs.computed.Step.{after_multisig, after_dummy, after_acting, within_bounds, step_at, step, run, outcome}
 
 -- 1 2 3 ROT
 rot : (known : Known) (q : Question) → outcome known q (0x51 ∷ 0x52 ∷ 0x53 ∷ 0x7b ∷ []) [] ≡ Says (Some ((1 ∷ []) ∷ (3 ∷ []) ∷ (2 ∷ []) ∷ []))
@@ -51,8 +52,16 @@ five_bytes known q = refl
 
 -- no signature of no key, with the element more that CHECKMULTISIG takes
 none_of_none : (known : Known) (q : Question) → outcome known q (0x00 ∷ 0x00 ∷ 0x00 ∷ 0xae ∷ []) [] ≡ Says (Some ((1 ∷ []) ∷ []))
-unfolding pushed_of operand_len ops rest row_at row_of push_row after_acting with_count within_bounds step_at step run outcome operand num_value pairs_verdict multisig_of after_multisig
+unfolding pushed_of operand_len ops rest row_at row_of push_row after_acting with_count within_bounds step_at step run outcome operand num_value pairs_verdict multisig_of after_multisig may_be_dummy after_dummy
 none_of_none known q = refl
+
+-- the same with 1 in that element's place: BIP 147 refuses it
+one_below : (known : Known) (tx : Tx) (spent : List ℕ) (asked : Bool)
+    → outcome known (question tx 0 spent (record { p2sh = true; dersig = true; cltv = true; csv = true; nulldummy = asked })) (0x51 ∷ 0x00 ∷ 0x00 ∷ 0xae ∷ []) []
+    ≡ Says (if asked then None else Some ((1 ∷ []) ∷ []))
+unfolding pushed_of operand_len ops rest row_at row_of push_row after_acting with_count within_bounds step_at step run outcome operand num_value pairs_verdict multisig_of after_multisig may_be_dummy after_dummy
+one_below known tx spent true = refl
+one_below known tx spent false = refl
 
 -- a push that is cut short
 cut : (known : Known) (q : Question) → outcome known q (0x02 ∷ 0xff ∷ []) [] ≡ Says None

@@ -1,6 +1,6 @@
 -- The verdict on an input, with a table of the valid signatures, as a test.
 use Rattle.std.specs.Prelude.{ℕ, List, Bool, false}
-use Rattle.txn.specs.declared.tx.Tx.{Tx}
+use Rattle.txn.specs.Tx.{Tx}
 use Rattle.signatures.specs.Known.{all_known}
 use Rattle.signatures.specs.Triple.{Triples}
 use Rattle.interp.specs.declared.flags.Flags.{Flags}

@@ -12,12 +12,12 @@ use Rattle.interp.specs.Stack.{Stack}
 use Rattle.interp.specs.Elements.{top_is_true}
 use Rattle.interp.specs.State.{State, is_executing, start}
 use Rattle.interp.specs.Effects.{verify, on_main}
-use Rattle.interp.specs.Row.{Row, AndVerifies, row_of}
+use Rattle.interp.specs.Row.{Check, Multisig, Row, Tests, AndVerifies, row_of}
 use Rattle.interp.specs.Rules.{skipped, with_count}
 use Rattle.interp.specs.Failures.{name_at, verify_name}
-use Rattle.interp.specs.computed.Step.{after_test, after_executing, within_bounds, stack_left}
+use Rattle.interp.specs.computed.Step.{after_multisig, after_dummy, after_test, after_executing, within_bounds, stack_left}
 use Rattle.interp.specs.declared.script_error.ScriptError.{ScriptError}
-use Rattle.interp.specs.declared.script_error.ScriptError.TheVariants.{UnknownError, EvalFalse, ScriptSize, OpCount, StackSize, BadOpcode, UnbalancedConditional, SigPushOnly}
+use Rattle.interp.specs.declared.script_error.ScriptError.TheVariants.{UnknownError, EvalFalse, ScriptSize, OpCount, StackSize, BadOpcode, UnbalancedConditional, SigPushOnly, SigNullDummy}
 
 -- what is left where the script goes on, else why it fails; or a signature that is wanted
 abbrev pub Named : Type 0 → Type 0
@@ -38,11 +38,19 @@ abbrev pub named : {A : Type 0} → ScriptError → Answer (Option A) → Named 
 named name answer = answer_map (λ o. ok_or o name) answer
 
 -- ---- one opcode
+-- what leaves a truth or a number: CHECKMULTISIG looks last at the element more that it takes (BIP 147)
+abbrev pub tested : Known → Question → ℕ → Check → State → Named State
+tested known q number Multisig s = do
+  answered ← named (name_at number s.main s.count) (after_multisig known q s)
+  or_else SigNullDummy (after_dummy q.flags s answered)
+tested known q number check s = named (name_at number s.main s.count) (after_test known q check s)
+
 -- an opcode of this number and this row, which is executed: what verifies fails by its test, or by the test's answer
 abbrev pub executed : Known → Question → List ℕ → ℕ → Row → State → Named State
+executed known q after number (Tests check) s = tested known q number check s
 executed known q after number (AndVerifies check) s = do
-  tested ← named (name_at number s.main s.count) (after_test known q check s)
-  or_else (verify_name number) (on_main verify tested)
+  left ← tested known q number check s
+  or_else (verify_name number) (on_main verify left)
 executed known q after number row s = named (name_at number s.main s.count) (after_executing known q after row s)
 
 unfoldable pub acted : Known → Question → List ℕ → ℕ → Row → State → Named State

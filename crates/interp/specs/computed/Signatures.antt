@@ -14,6 +14,10 @@ use Rattle.interp.specs.declared.flags.Flags.{Flags}
 unfoldable pub may_be_tried : Flags → Bytes → Bool
 may_be_tried flags signature = not flags.dersig || is_strict signature
 
+-- the element more that CHECKMULTISIG takes is empty, or that rule is out of force (BIP 147)
+unfoldable pub may_be_dummy : Flags → Bytes → Bool
+may_be_dummy flags dummy = length dummy == 0 || not flags.nulldummy
+
 -- the verdict on a triple, or else it is wanted
 abbrev pub verdict_or_wanted : Option Bool → Triple → Answer Bool
 verdict_or_wanted (Some valid) t = Says valid

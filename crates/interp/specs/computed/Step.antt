@@ -7,14 +7,15 @@ use Rattle.script.specs.Ops.{ops, rest, is_whole}
 use Rattle.script.specs.Kinds.{is_push_only, is_p2sh, max_script_size}
 use Rattle.txn.specs.declared.input.TxIn.{TxIn}
 use Rattle.interp.specs.Limits.{max_elements}
-use Rattle.interp.specs.Stack.{Stack}
+use Rattle.interp.specs.Stack.{Stack, Bytes}
 use Rattle.interp.specs.Elements.{truth_bytes, top_is_true}
 use Rattle.signatures.specs.Known.{Known}
+use Rattle.interp.specs.declared.flags.Flags.{Flags}
 use Rattle.interp.specs.Answer.{Answer, Says, Wants, answer_map, on_some, and_then, also}
 use Rattle.interp.specs.Question.{Question}
 use Rattle.interp.specs.State.{State, is_executing, start}
 use Rattle.interp.specs.Signatures.{signed_code}
-use Rattle.interp.specs.computed.Signatures.{pair_verdict, pairs_verdict}
+use Rattle.interp.specs.computed.Signatures.{pair_verdict, pairs_verdict, may_be_dummy}
 use Rattle.interp.specs.Effects.{verify, on_main, ask_if}
 use Rattle.interp.specs.Row.{Check, Of, Sig, Multisig, Row, Does, Controls, Tests, AndVerifies, Separates, Asks, row_of}
 use Rattle.interp.specs.Rules.{Taken, multisig_of, with_answer, skipped, with_count}
@@ -35,10 +36,18 @@ after_taking known q s taken =
 unfoldable pub after_multisig : Known → Question → State → Answer (Option State)
 after_multisig known q s = on_some (after_taking known q s) (multisig_of s)
 
+-- the element more that it takes
+abbrev pub dummy_of : State → Bytes
+dummy_of s = option_map_or (λ taken. taken.dummy) (multisig_of s) []
+
+-- BIP 147: after its signatures, whatever their answer, CHECKMULTISIG looks at that element
+unfoldable pub after_dummy : Flags → State → State → Option State
+after_dummy flags s answered = if may_be_dummy flags (dummy_of s) then Some answered else None
+
 abbrev pub after_test : Known → Question → Check → State → Answer (Option State)
 after_test known q (Of f) s = Says (on_main f s)
 after_test known q Sig s = after_sig known q s s.main
-after_test known q Multisig s = after_multisig known q s
+after_test known q Multisig s = answer_map (option_and_then (after_dummy q.flags s)) (after_multisig known q s)
 
 -- ---- one opcode
 -- a row that is executed; what follows the opcode in the script is `after`

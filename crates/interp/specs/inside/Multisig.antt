@@ -5,7 +5,7 @@ use Rattle.signatures.specs.Known.{Known}
 use Rattle.interp.specs.Limits.{max_ops, max_keys, max_number_size}
 use Rattle.interp.specs.Answer.{Answer, answer_map}
 use Rattle.interp.specs.Question.{Question}
-use Rattle.interp.specs.Stack.{Stack, Bytes}
+use Rattle.interp.specs.Stack.{Stack, Bytes, nth}
 use Rattle.interp.specs.Elements.{truth_bytes, natural_of}
 use Rattle.interp.specs.State.{State}
 use Rattle.interp.specs.Signatures.{signed_code}
@@ -23,6 +23,10 @@ keys_in keys s = take keys (drop 1 s)
 
 abbrev pub signatures_in : ℕ → ℕ → Stack → List Bytes
 signatures_in keys signatures s = take signatures (drop (keys + 2) s)
+
+-- and the element more
+abbrev pub dummy_in : ℕ × ℕ → Stack → Bytes
+dummy_in counts s = nth s (counts.0 + counts.1 + 2)
 
 -- how many there are
 unfoldable pub counts_of : State → Option (ℕ × ℕ)

@@ -9,18 +9,18 @@ use Rattle.script.specs.Kinds.{is_push_only, is_p2sh}
 use Rattle.txn.specs.declared.input.TxIn.{TxIn}
 use Rattle.signatures.specs.Known.{Known}
 use Rattle.interp.specs.declared.script_error.ScriptError.{ScriptError}
-use Rattle.interp.specs.declared.script_error.ScriptError.TheVariants.{UnknownError, EvalFalse, ScriptSize, OpCount, StackSize, UnbalancedConditional, SigPushOnly}
+use Rattle.interp.specs.declared.script_error.ScriptError.TheVariants.{UnknownError, EvalFalse, ScriptSize, OpCount, StackSize, UnbalancedConditional, SigPushOnly, SigNullDummy}
 use Rattle.interp.specs.Answer.{Answer, Says, Wants, answer_map, and_then, also}
 use Rattle.interp.specs.Question.{Question}
 use Rattle.interp.specs.Stack.{Stack}
 use Rattle.interp.specs.Elements.{top_is_true}
 use Rattle.interp.specs.State.{State, is_executing, start}
 use Rattle.interp.specs.Effects.{verify, on_main}
-use Rattle.interp.specs.Row.{Row, Does, Controls, Tests, AndVerifies, Separates, Asks, row_of}
+use Rattle.interp.specs.Row.{Check, Of, Sig, Multisig, Row, Does, Controls, Tests, AndVerifies, Separates, Asks, row_of}
 use Rattle.interp.specs.Rules.{skipped, with_count}
 use Rattle.interp.specs.Failures.{name_at, verify_name}
-use Rattle.interp.specs.computed.Step.{after_test, after_executing, after_acting, after_counting, within_bounds, step_at, step, run, stack_left, end_of, outcome, ends_true, inner_outcome, inner_verdict, verdict_on, verdict_after, verdict_with, verdict_of_input, verdict}
-use Rattle.interp.specs.computed.NamedFailures.{Named, ◌>>=◌, or_else, named, executed, acted, step_named, run_named, end_named, eval_script, true_top, eval_to_true, eval_inner, inner_named, on_left, verify_with_script, verify_script}
+use Rattle.interp.specs.computed.Step.{after_multisig, after_dummy, after_test, after_executing, after_acting, after_counting, within_bounds, step_at, step, run, stack_left, end_of, outcome, ends_true, inner_outcome, inner_verdict, verdict_on, verdict_after, verdict_with, verdict_of_input, verdict}
+use Rattle.interp.specs.computed.NamedFailures.{Named, ◌>>=◌, or_else, named, tested, executed, acted, step_named, run_named, end_named, eval_script, true_top, eval_to_true, eval_inner, inner_named, on_left, verify_with_script, verify_script}
 
 -- without the name of the failure
 abbrev pub unnamed : {A : Type 0} → Named A → Answer (Option A)
@@ -61,14 +61,20 @@ then-else name a before f is =
 
 module _ (known : Known) (q : Question) where
   -- ---- one opcode
+  tested-same : (number : ℕ) (check : Check) (s : State) → unnamed (tested known q number check s) ≡ after_test known q check s
+  tested-same number (Of f) s = unnamed-named (name_at number s.main s.count) (after_test known q (Of f) s)
+  tested-same number Sig s = unnamed-named (name_at number s.main s.count) (after_test known q Sig s)
+  tested-same number Multisig s =
+      then-else SigNullDummy (named (name_at number s.main s.count) (after_multisig known q s)) (after_multisig known q s) (after_dummy q.flags s) (unnamed-named (name_at number s.main s.count) (after_multisig known q s))
+
   executed-same : (after : List ℕ) (number : ℕ) (row : Row) (s : State) → unnamed (executed known q after number row s) ≡ after_executing known q after row s
   executed-same after number (Does f) s = unnamed-named (name_at number s.main s.count) (after_executing known q after (Does f) s)
   executed-same after number (Controls f untaken) s = unnamed-named (name_at number s.main s.count) (after_executing known q after (Controls f untaken) s)
-  executed-same after number (Tests check) s = unnamed-named (name_at number s.main s.count) (after_executing known q after (Tests check) s)
+  executed-same after number (Tests check) s = tested-same number check s
   executed-same after number Separates s = unnamed-named (name_at number s.main s.count) (after_executing known q after Separates s)
   executed-same after number (Asks in_force test) s = unnamed-named (name_at number s.main s.count) (after_executing known q after (Asks in_force test) s)
   executed-same after number (AndVerifies check) s =
-      then-else (verify_name number) (named (name_at number s.main s.count) (after_test known q check s)) (after_test known q check s) (on_main verify) (unnamed-named (name_at number s.main s.count) (after_test known q check s))
+      then-else (verify_name number) (tested known q number check s) (after_test known q check s) (on_main verify) (tested-same number check s)
 
   acted-same : (after : List ℕ) (number : ℕ) (row : Row) (s : State) → unnamed (acted known q after number row s) ≡ after_acting known q after row s
   unfolding acted after_acting

@@ -1,7 +1,7 @@
 -- Verdicts with a table, and under every set of valid signatures that agrees, are the relation's.
 use Rattle.std.specs.Prelude.{◌≡◌, ◌↔◌, ℕ, List, Bool, true, Some, IsTrue}
 use Rattle.std.proofs.Common.{sym, ap, ◌∙◌}
-use Rattle.txn.specs.declared.tx.Tx.{Tx}
+use Rattle.txn.specs.Tx.{Tx}
 use Rattle.signatures.specs.Known.{Known, Under, all_known}
 use Rattle.signatures.specs.Triple.{Triple, Triples}
 use Rattle.interp.specs.declared.flags.Flags.{Flags}

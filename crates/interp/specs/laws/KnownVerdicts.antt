@@ -78,7 +78,7 @@ module _ (known more : Known) (grows : Grows known more) (q : Question) where
   test-stays : (check : Check) (s : State) → Stays known more (after_test known q check s) (after_test more q check s)
   test-stays (Of f) s = refl
   test-stays Sig s = sig-stays s s.main
-  test-stays Multisig s = multisig-stays s
+  test-stays Multisig s = map-stays known more _ _ _ (multisig-stays s)
 
   executing-stays : (after : List ℕ) (row : Row) (s : State) → Stays known more (after_executing known q after row s) (after_executing more q after row s)
   executing-stays after (Does f) s = refl

@@ -2,25 +2,27 @@
 use Rattle.std.specs.Prelude.{if◌then◌else◌}
 use Rattle.std.proofs.Common.{◌≡◌, ◌⊎◌, inl, inr, ℕ, List, [], ◌∷◌, Bool, true, false, not, ◌||◌, eqb, Some, None, length, refl, sym, ap, ◌∙◌, ⊎_elim}
 use Rattle.std.proofs.lemmas.Bool.{cases_lt}
-use borrow.Author.Tests.{lt-ltb, le-ltb}
-use Rattle.std.specs.Option.{option_map}
+use Rattle.std.proofs.lemmas.List.{nil_from_length}
+use borrow.Author.Tests.{lt-ltb, le-ltb, eqb-true}
+use Rattle.std.specs.Option.{option_map, option_map_or, option_and_then}
 use Rattle.signatures.specs.Shape.{IsStrict}
 use Rattle.signatures.specs.laws.Shape.{strict-sound, strict-again}
 use Rattle.signatures.specs.computed.Shape.{is_strict}
 use Rattle.interp.specs.Stack.{Stack, Bytes}
 use Rattle.interp.specs.Elements.{truth_bytes}
-use Rattle.interp.specs.Answer.{Says}
+use Rattle.interp.specs.Answer.{Says, answer_map}
 use Rattle.interp.specs.Question.{Question}
 use Rattle.interp.specs.inside.JobContext.{spending_for}
 use Rattle.interp.specs.declared.flags.Flags.{Flags}
 use Rattle.interp.specs.State.{State}
-use Rattle.interp.specs.Signatures.{signed_code, is_valid, MayBeTried, Tries}
-use Rattle.interp.specs.computed.Signatures.{may_be_tried, pair_verdict, pairs_verdict}
-use Rattle.interp.specs.computed.Step.{after_sig, after_taking, after_multisig}
-use Rattle.interp.specs.Rules.{ChecksOne, multisig_of, with_answer, ChecksMany}
+use Rattle.interp.specs.Row.{Multisig}
+use Rattle.interp.specs.Signatures.{signed_code, is_valid, MayBeTried, MayBeDummy, Tries}
+use Rattle.interp.specs.computed.Signatures.{may_be_tried, may_be_dummy, pair_verdict, pairs_verdict}
+use Rattle.interp.specs.computed.Step.{after_sig, after_taking, after_multisig, dummy_of, after_dummy, after_test}
+use Rattle.interp.specs.Rules.{ChecksOne, Taken, multisig_of, with_answer, ChecksMany}
 use Rattle.signatures.specs.Known.{all_known}
 use Rattle.signatures.specs.Triple.{Triples}
-use Rattle.interp.specs.laws.Answers.{map-some, map-says, some-says, then-says}
+use Rattle.interp.specs.laws.Answers.{map-some, map-says, some-says, then-some, then-says}
 
 -- ---- a pair
 pub may-sound : (flags : Flags) (signature : Bytes) → may_be_tried flags signature ≡ true → MayBeTried flags signature
@@ -114,16 +116,61 @@ tried-again q triples code (signature ∷ signatures) (key ∷ keys) answer r =
     (λ v. rw (le-ltb (length keys) (length signatures) h.0, judged-again q triples code signature key false h.1 v.0) (tried-again q triples code (signature ∷ signatures) keys answer v.1)) h.2) r
 
 -- ---- CHECKMULTISIG
-pub multisig-sound : (q : Question) (triples : Triples) (s t : State) → after_multisig (all_known triples) q s ≡ Says (Some t) → ChecksMany (spending_for q triples) s t
+dummy-sound : (flags : Flags) (dummy : Bytes) → may_be_dummy flags dummy ≡ true → MayBeDummy flags dummy
+unfolding may_be_dummy
+dummy-sound flags dummy e = λ asked. nil_from_length dummy (eqb-true (length dummy) 0 (by (eqb (length dummy) 0) (ap (λ in_force. eqb (length dummy) 0 || not in_force) (sym asked) ∙ e)))
+  where
+    by : (empty : Bool) → (empty || false) ≡ true → empty ≡ true
+    by true h = refl
+    by false h = h
+
+dummy-again : (flags : Flags) (dummy : Bytes) → MayBeDummy flags dummy → may_be_dummy flags dummy ≡ true
+unfolding may_be_dummy
+dummy-again flags dummy h = by flags.nulldummy h
+  where
+    either : (empty : Bool) → (empty || true) ≡ true
+    either true = refl
+    either false = refl
+
+    by : (asked : Bool) → (asked ≡ true → dummy ≡ []) → (eqb (length dummy) 0 || not asked) ≡ true
+    by true h = rw (h refl) refl
+    by false h = either (eqb (length dummy) 0)
+
+-- the element more, looked at once the answer is there
+after-sound : (flags : Flags) (s answered t : State) (taken : Taken) → multisig_of s ≡ Some taken → after_dummy flags s answered ≡ Some t → MayBeDummy flags taken.dummy × (answered ≡ t)
+unfolding after_dummy
+after-sound flags s answered t taken takes e = by (may_be_dummy flags (dummy_of s)) refl e
+  where
+    same : dummy_of s ≡ taken.dummy
+    same = ap (λ o. option_map_or (λ (found : Taken). found.dummy) o []) takes
+
+    by : (may : Bool) → may_be_dummy flags (dummy_of s) ≡ may → (if may then Some answered else None) ≡ Some t → MayBeDummy flags taken.dummy × (answered ≡ t)
+    by true is e = (dummy-sound flags taken.dummy (ap (may_be_dummy flags) (sym same) ∙ is), cc)
+    by false is e = cc
+
+after-again : (flags : Flags) (s answered : State) (taken : Taken) → multisig_of s ≡ Some taken → MayBeDummy flags taken.dummy → after_dummy flags s answered ≡ Some answered
+unfolding after_dummy
+after-again flags s answered taken takes h =
+    let same : dummy_of s ≡ taken.dummy = ap (λ o. option_map_or (λ (found : Taken). found.dummy) o []) takes in
+    let may : may_be_dummy flags (dummy_of s) ≡ true = ap (may_be_dummy flags) same ∙ dummy-again flags taken.dummy h in
+    rw may refl
+
+pub multisig-sound : (q : Question) (triples : Triples) (s t : State) → after_test (all_known triples) q Multisig s ≡ Says (Some t) → ChecksMany (spending_for q triples) s t
 unfolding after_multisig
 multisig-sound q triples s t e =
     let known = all_known triples in
-    let h = some-says (after_taking known q s) (multisig_of s) t e in
-    let o = map-says (option_map (with_answer s h.0)) (pairs_verdict known q (signed_code s.code h.0.signatures) h.0.signatures h.0.keys) (Some t) h.2 in
-    let g = map-some o.0 (with_answer s h.0) t o.2 in
-    (h.0, g.0, h.1, tried-sound q triples (signed_code s.code h.0.signatures) h.0.signatures h.0.keys g.0 (o.1 ∙ ap Says g.1), g.2)
+    let d = map-says (option_and_then (after_dummy q.flags s)) (after_multisig known q s) (Some t) e in
+    let v = then-some d.0 (after_dummy q.flags s) t d.2 in
+    let h = some-says (after_taking known q s) (multisig_of s) v.0 (d.1 ∙ ap Says v.1) in
+    let o = map-says (option_map (with_answer s h.0)) (pairs_verdict known q (signed_code s.code h.0.signatures) h.0.signatures h.0.keys) (Some v.0) h.2 in
+    let g = map-some o.0 (with_answer s h.0) v.0 o.2 in
+    let n = after-sound q.flags s v.0 t h.0 h.1 v.2 in
+    (h.0, g.0, h.1, tried-sound q triples (signed_code s.code h.0.signatures) h.0.signatures h.0.keys g.0 (o.1 ∙ ap Says g.1), n.0, sym n.1 ∙ g.2)
 
-pub multisig-again : (q : Question) (triples : Triples) (s t : State) → ChecksMany (spending_for q triples) s t → after_multisig (all_known triples) q s ≡ Says (Some t)
+pub multisig-again : (q : Question) (triples : Triples) (s t : State) → ChecksMany (spending_for q triples) s t → after_test (all_known triples) q Multisig s ≡ Says (Some t)
 unfolding after_multisig
-multisig-again q triples s t (taken, answer, takes, tries, after) =
-    rw (takes, tried-again q triples (signed_code s.code taken.signatures) taken.signatures taken.keys answer tries, after) refl
+multisig-again q triples s t (taken, answer, takes, tries, may, after) =
+    let answered : after_multisig (all_known triples) q s ≡ Says (Some (with_answer s taken answer)) =
+    rw (takes, tried-again q triples (signed_code s.code taken.signatures) taken.signatures taken.keys answer tries) refl in
+    ap (answer_map (option_and_then (after_dummy q.flags s))) answered
+    ∙ ap Says (after-again q.flags s (with_answer s taken answer) taken takes may) ∙ ap (λ u. Says (Some u)) (sym after)

@@ -2,7 +2,7 @@
 use Rattle.std.specs.Prelude.{◌≡◌, ℕ, List, [], ◌∷◌, Option, None, Some, pos, true, false, refl}
 use Rattle.txn.specs.declared.reason.Reason.{Reason}
 use Rattle.txn.specs.declared.reason.Reason.TheVariants.{TimeTooOld, TimeTooNew, CoinbaseHeight, NonFinal}
-use Rattle.txn.specs.declared.tx.Tx.{Tx}
+use Rattle.txn.specs.Tx.{Tx}
 use Rattle.txn.specs.Coinbase.{null}
 use Rattle.block.specs.declared.block.Block.{Block}
 use Rattle.block.specs.Genesis as block
@@ -39,19 +39,19 @@ pub on_genesis :
       height = 1;
       cutoff = 1296688602;
       medians = 1296688602 ∷ [];
-      rules = record { bip34 = true; bip65 = true; bip66 = true; csv = true };
+      rules = record { bip34 = true; bip65 = true; bip66 = true; csv = true; nulldummy = false };
     }
 unfolding median_time_past median_of is_middle
 on_genesis = refl
 
 -- of two times the later one is in the middle; the times needn't rise
 pub on_two_more :
-    setting_on (record { bip34 = 2; bip65 = 3; bip66 = 4; csv = 5 }) (block_of_time 1296688800 [] ∷ block_of_time 1296689000 [] ∷ genesis ∷ [])
+    setting_on (rules.of_heights 2 3 4 5) (block_of_time 1296688800 [] ∷ block_of_time 1296689000 [] ∷ genesis ∷ [])
     ≡ record {
       height = 3;
       cutoff = 1296688800;
       medians = 1296688602 ∷ 1296689000 ∷ 1296688800 ∷ [];
-      rules = record { bip34 = true; bip65 = true; bip66 = false; csv = false };
+      rules = record { bip34 = true; bip65 = true; bip66 = false; csv = false; nulldummy = false };
     }
 unfolding median_time_past median_of is_middle
 on_two_more = refl
@@ -62,7 +62,7 @@ abbrev fault_at : Params → ℕ → Block → Option Reason
 fault_at params now b = (regtest params empty).context_fault (genesis ∷ []) now b
 
 abbrev with_csv_from : ℕ → Params
-with_csv_from height = record { bip34 = 1; bip65 = 1; bip66 = 1; csv = height }
+with_csv_from height = rules.of_heights 1 1 1 height
 
 -- a coinbase that pushes height 1, and may stand in no block before this time
 abbrev locked_until : ℕ → Tx
@@ -71,6 +71,7 @@ locked_until time = record {
   inputs = record { prev = null; script = 0x51 ∷ []; sequence = 0 } ∷ [];
   outputs = [];
   lock_time = time;
+  witnesses = [];
 }
 
 pub time_of_the_median : fault_at (with_csv_from 1) 1296688602 (block_of_time 1296688602 []) ≡ Some TimeTooOld

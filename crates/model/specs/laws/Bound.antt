@@ -1,7 +1,7 @@
 -- Regtest's coins: a block that connects raises their total by at most its subsidy.
 use Rattle.std.specs.Prelude.{◌≡◌, refl, List, Option, Some, None}
 use Rattle.std.specs.Option.{option_or}
-use Rattle.txn.specs.declared.tx.Tx.{Tx}
+use Rattle.txn.specs.Tx.{Tx}
 use Rattle.txn.specs.declared.reason.Reason.{Reason}
 use Rattle.txn.specs.First.{first_broken}
 use Rattle.block.specs.Reward.{subsidy_of}

@@ -8,7 +8,7 @@ use Rattle.std.specs.FinMap.{get-empty}
 use Rattle.hash.specs.declared.id.Id.{Id}
 use Rattle.txn.specs.declared.outpoint.OutPoint.{OutPoint}
 use Rattle.txn.specs.declared.output.TxOut.{TxOut}
-use Rattle.txn.specs.declared.tx.Tx.{Tx}
+use Rattle.txn.specs.Tx.{Tx}
 use Rattle.txn.specs.Identity.{id_of}
 use Rattle.block.specs.declared.block.Block.{Block}
 use Rattle.signatures.specs.Triple.{Triples}

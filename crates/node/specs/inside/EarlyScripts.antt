@@ -1,6 +1,6 @@
 -- The scripts of a block that can be run before the lock is taken.
 use Rattle.std.specs.Prelude.{◌≡◌, ◌⊎◌, ◌+◌, List, [], Option, None, Some}
-use Rattle.txn.specs.declared.tx.Tx.{Tx}
+use Rattle.txn.specs.Tx.{Tx}
 use Rattle.signatures.specs.Known.{Under}
 use Rattle.signatures.specs.Triple.{Triples}
 use Rattle.tree.specs.Branches.{height}

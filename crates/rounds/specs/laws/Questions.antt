@@ -7,6 +7,7 @@ use borrow.Author.Tests.{lt-ltb, le-ltb}
 use Rattle.std.specs.Option.{option_map, option_and_then}
 use Rattle.signatures.specs.Known.{Known}
 use Rattle.signatures.specs.Triple.{Triple}
+use Rattle.interp.specs.declared.flags.Flags.{Flags}
 use Rattle.interp.specs.Answer.{Answer, Says, answer_map}
 use Rattle.interp.specs.Limits.{max_ops, max_keys}
 use Rattle.interp.specs.Question.{Question}
@@ -17,8 +18,8 @@ use Rattle.interp.specs.State.{State, is_executing}
 use Rattle.interp.specs.Effects.{verify, on_main, ask_if}
 use Rattle.interp.specs.Row.{Check, Of, Sig, Multisig, Row, Does, Controls, Tests, AndVerifies, Separates, Asks, row_of}
 use Rattle.interp.specs.Rules.{Taken, pop_count, pop_many, multisig_of, with_answer, skipped, with_count}
-use Rattle.interp.specs.computed.Signatures.{may_be_tried, triple_for, verdict_or_wanted, pair_verdict, pairs_verdict}
-use Rattle.interp.specs.computed.Step.{after_sig, after_taking, after_multisig, after_test, after_executing, after_acting, within_bounds, after_counting, step_at, step}
+use Rattle.interp.specs.computed.Signatures.{may_be_tried, may_be_dummy, triple_for, verdict_or_wanted, pair_verdict, pairs_verdict}
+use Rattle.interp.specs.computed.Step.{after_sig, after_taking, after_multisig, dummy_of, after_dummy, after_test, after_executing, after_acting, within_bounds, after_counting, step_at, step}
 use Rattle.interp.specs.laws.Answers.{then-some}
 use Rattle.rounds.specs.laws.Inquiry.{End, Ask, asked, AsksWithin, more, says, maps, left_in, somes, thens, chosen}
 use Rattle.rounds.specs.laws.Table.{room, Stays, main-keeps, ask-keeps, IsCounted, IsOrderly, skipped-keeps, places, places_in, row-orderly, counted-room}
@@ -55,6 +56,15 @@ few-keys s taken e =
 verified-stays : (o : Option State) → left_in room (option_and_then (on_main verify) o) ≤ left_in room o
 verified-stays (Some s) = main-keeps verify s
 verified-stays None = omega arith
+
+dummy-stays : (flags : Flags) (s : State) (o : Option State) → left_in room (option_and_then (after_dummy flags s) o) ≤ left_in room o
+unfolding after_dummy
+dummy-stays flags s None = omega arith
+dummy-stays flags s (Some answered) = by (may_be_dummy flags (dummy_of s))
+  where
+    by : (may : Bool) → left_in room (if may then Some answered else None) ≤ left_in room (Some answered)
+    by true = omega arith
+    by false = omega arith
 
 bounds-stay : (o : Option State) → left_in room (option_and_then within_bounds o) ≤ left_in room o
 unfolding within_bounds
@@ -127,7 +137,9 @@ module _ (q : Question) where
   test-within : (check : Check) (s : State) → AsksWithin (left_in room) (places check + room s) (λ known. after_test known q check s)
   test-within (Of f) s = says (left_in room) (0 + room s) (on_main f s) (let h = main-keeps f s in omega (arith, h))
   test-within Sig s = sig s s.main
-  test-within Multisig s = more (left_in room) (room s) (0 + room s) _ (omega arith) (multisig s)
+  test-within Multisig s =
+      more (left_in room) (room s) (0 + room s) _ (omega arith)
+      (maps (left_in room) (left_in room) (room s) (option_and_then (after_dummy q.flags s)) _ (dummy-stays q.flags s) (multisig s))
 
   -- it does the same whatever is known
   done : (o : Option State) (s : State) → Stays s o → AsksWithin (left_in room) (0 + room s) (λ known. Says o)

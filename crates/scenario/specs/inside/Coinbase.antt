@@ -1,6 +1,6 @@
 -- The coinbase of a block that a scenario defines.
 use Rattle.std.specs.Prelude.{ℕ, pos, List, [], ◌∷◌, ◌++◌, length, Option, Some, None}
-use Rattle.txn.specs.declared.tx.Tx.{Tx}
+use Rattle.txn.specs.Tx.{Tx}
 use Rattle.txn.specs.Coinbase.{null}
 use Rattle.block.specs.Reward.{subsidy_of}
 use Rattle.rules.specs.Context.{height_push}
@@ -26,4 +26,5 @@ coinbase_of recipe name height =
       inputs = record { prev = null; script = script; sequence = 0xffffffff } ∷ [];
       outputs = record { value = value; script = pay } ∷ [];
       lock_time = 0;
+      witnesses = [];
     }

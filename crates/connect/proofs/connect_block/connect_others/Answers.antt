@@ -3,7 +3,7 @@ use Rattle.std.proofs.Common.{rules, to_z, of_z, ◌≡◌, ◌+◌, ◌++◌, �
 use Rattle.std.specs.List.{AllByRecursion, flat_map, fold, list_any, drop-map}
 use Rattle.std.proofs.lemmas.Int.{ints}
 use Rattle.std.proofs.lemmas.List.{append_assoc, append-nil}
-use Rattle.txn.specs.declared.tx.Tx.{Tx}
+use Rattle.txn.specs.Tx.{Tx}
 use Rattle.txn.specs.First.{first_broken}
 use Rattle.txn.specs.Identity.{id_of}
 use Rattle.coins.specs.declared.coin.Coin.{Coin}

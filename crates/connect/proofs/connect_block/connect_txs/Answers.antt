@@ -3,7 +3,7 @@ use Rattle.std.specs.Prelude.{int_lt}
 use Rattle.std.specs.Int.{w128}
 use Rattle.std.specs.List.{list_any}
 use Rattle.std.proofs.lemmas.Int.{to_z-of_z}
-use Rattle.txn.specs.declared.tx.Tx.{Tx}
+use Rattle.txn.specs.Tx.{Tx}
 use Rattle.txn.specs.Check.{total}
 use Rattle.txn.specs.declared.reason.Reason.TheVariants.{CoinbaseAmount}
 use Rattle.txn.specs.First.{first_broken}
@@ -70,7 +70,7 @@ returns-then-is_overpaid-clause-fault g c =
     let p = parted s m xs c.index-txs-0.result c.requires.some c.index-txs-0.is in
     let b = begun s c.args.layer xs c.index-txs-0.result _ _ _ _ p c.in_ok-coinbase.ensures.passes in
     let all = c.in_ok-others.ensures.pass in
-    let paid : total c.as_slice.result.now ≡ reward_of xs = ap total c.as_slice.ensures ∙ search rules in
+    let paid : total c.as_slice.result.now ≡ reward_of xs = ap total (c.as_slice.ensures ∙ ap (λ (x : Tx). x.outputs) c.first.view_is) ∙ search rules in
     let taken = to_z-of_z w128 c.in_ok-others.others.fees (search rules) ∙ all.fees ∙ ap fees (b.turns_are ∙ sym p.later) in
     let over = overpaid s m xs c.is_overpaid.result _ _ c.is_overpaid.ensures taken paid in
     after_turns s m xs (sym c.is_overwriting.ensures ∙ c.if-is_overwriting.false) (b.rules_are ∙ all.none)
@@ -84,7 +84,7 @@ returns-clause-pass g c =
     let p = parted s m xs c.index-txs-0.result c.requires.some c.index-txs-0.is in
     let b = begun s c.args.layer xs c.index-txs-0.result _ _ _ _ p c.in_ok-coinbase.ensures.passes in
     let all = c.in_ok-others.ensures.pass in
-    let paid : total c.as_slice.result.now ≡ reward_of xs = ap total c.as_slice.ensures ∙ search rules in
+    let paid : total c.as_slice.result.now ≡ reward_of xs = ap total (c.as_slice.ensures ∙ ap (λ (x : Tx). x.outputs) c.first.view_is) ∙ search rules in
     let taken = to_z-of_z w128 c.in_ok-others.others.fees (search rules) ∙ all.fees ∙ ap fees (b.turns_are ∙ sym p.later) in
     let over = overpaid s m xs c.is_overpaid.result _ _ c.is_overpaid.ensures taken paid in
     let base = ap (λ (l : Layer). l.base) all.layer ∙ ap (λ (l : Layer). l.base) c.in_ok-coinbase.ensures.passes.layer in

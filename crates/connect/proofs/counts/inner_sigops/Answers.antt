@@ -3,6 +3,7 @@ use Rattle.std.specs.List.{zip}
 use Rattle.std.proofs.lemmas.List.{take_all}
 use Rattle.std.proofs.lemmas.List.Sums.{sum_by_push}
 use Rattle.txn.specs.declared.input.TxIn.{TxIn}
+use Rattle.txn.specs.Tx.{Tx}
 use Rattle.coins.specs.declared.coin.Coin.{Coin}
 use Rattle.script.specs.Signatures.{p2sh_sigops}
 use Rattle.connect.specs.Turns.{inner_sigops}
@@ -22,7 +23,7 @@ loop-index-preserved c =
     let y = c.index-coins-index.result in
     let short : length ys ≤ length xs = omega (arith, c.requires) in
     let below : i < length ys = omega (arith, c.loop-index-test.true) in
-    let here = zip_at xs ys i x y (omega arith) below (item_of i x c.as_slice.ensures c.index-as_slice-index.is) c.index-coins-index.is in
+    let here = zip_at xs ys i x y (omega arith) below (item_of i x (c.as_slice.ensures ∙ ap (λ (t : Tx). t.inputs) c.tx.view_is) c.index-as_slice-index.is) c.index-coins-index.is in
     let next : sum_by of (take (i + 1) (zip xs ys)) ≡ sum_by of (take i (zip xs ys)) + of (x, y) = ap (sum_by of) (take_item (zip xs ys) i (x, y) (omega (arith, length-zip xs ys short)) here) ∙ sum_by_push of (take i (zip xs ys)) (x, y) in
     let value : c.p2sh_sigops.result ≡ of (x, y) = c.p2sh_sigops.ensures ∙ ap₂ p2sh_sigops (search rules) (search rules) in
     let sum = c.saturating_add-sum.ensures in

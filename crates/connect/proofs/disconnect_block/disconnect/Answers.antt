@@ -1,5 +1,5 @@
 use Rattle.std.proofs.Common.{List, sym, ap, subst, ◌∙◌}
-use Rattle.txn.specs.declared.tx.Tx.{Tx}
+use Rattle.txn.specs.Tx.{Tx}
 use Rattle.coins.specs.Coins.{Coins, Layer}
 use Rattle.connect.specs.inside.AppliedTransactions.{IsBlockApplied}
 use Rattle.connect.specs.laws.Application.{block_applied}

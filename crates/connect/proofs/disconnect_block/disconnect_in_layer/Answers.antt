@@ -1,5 +1,5 @@
 use Rattle.std.proofs.Common.{List, sym, subst}
-use Rattle.txn.specs.declared.tx.Tx.{Tx}
+use Rattle.txn.specs.Tx.{Tx}
 use Rattle.connect.specs.inside.AppliedTransactions.{IsBlockApplied}
 use Rattle.connect.specs.laws.Application.{block_applied}
 use Rattle.connect.proofs.disconnect_block.disconnect_in_layer.Goals as goal

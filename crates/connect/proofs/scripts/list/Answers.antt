@@ -2,7 +2,7 @@ use Rattle.std.proofs.Common.{rules, IfSome, ◌≡◌, ◌+◌, ◌≤◌, ◌+
 use Rattle.std.specs.List.{AllZip}
 use Rattle.std.proofs.lemmas.List.{append_assoc, append-nil}
 use Rattle.std.proofs.lemmas.List.Sums.{sum_by-cons}
-use Rattle.txn.specs.declared.tx.Tx.{Tx}
+use Rattle.txn.specs.Tx.{Tx}
 use Rattle.coins.specs.declared.coin.Coin.{Coin}
 use Rattle.queue.specs.laws.LentMidstates.{lent_of}
 use Rattle.connect.specs.Scripts.{Check, input_checks}

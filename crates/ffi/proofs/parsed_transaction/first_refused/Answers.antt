@@ -1,6 +1,6 @@
 -- What the input at a place says comes before what the others say.
 use Rattle.std.proofs.Common.{◌≡◌, ℕ, ◌+◌, ◌<◌, List, length, get_or, drop, sym, ap, ap₂, ◌∙◌, arith}
-use Rattle.txn.specs.declared.tx.Tx.{Tx}
+use Rattle.txn.specs.Tx.{Tx}
 use Rattle.signatures.specs.Known.{Known, verdict_in}
 use Rattle.interp.specs.Answer.{Says}
 use Rattle.interp.specs.Question.{question}

@@ -1,5 +1,6 @@
 use Rattle.std.proofs.Common.{◌++◌, ◌∷◌, ap, subst, sym, ◌∙◌, Some}
 use Rattle.std.proofs.lemmas.Option.{same_Some}
+use Rattle.rules.specs.Params.{of_heights}
 use Rattle.journal.specs.Heights.{IsNumber}
 use Rattle.journal.proofs.heights.read_heights.Goals as goal
 
@@ -13,8 +14,9 @@ returns-clause-reads c heights spelling =
     let csv = c.in_ok-csv.ensures.reads heights.csv
     (subst (λ text. IsNumber text heights.csv) (sym bip66.1) spelling.csv) in
     ap Some
-    (ap (λ n. record { bip34 = n; bip65 = c.in_ok-bip65.bip65; bip66 = c.in_ok-bip66.bip66; csv = c.in_ok-csv.csv }) bip34.0
-    ∙ ap (λ n. record { bip34 = heights.bip34; bip65 = n; bip66 = c.in_ok-bip66.bip66; csv = c.in_ok-csv.csv }) bip65.0
-    ∙ ap (λ n. record { bip34 = heights.bip34; bip65 = heights.bip65; bip66 = n; csv = c.in_ok-csv.csv }) bip66.0
-    ∙ ap (λ n. record { bip34 = heights.bip34; bip65 = heights.bip65; bip66 = heights.bip66; csv = n })
-    (same_Some c.in_ok-csv.csv heights.csv csv))
+    (c.of_heights.ensures
+    ∙ ap (λ n. of_heights n c.in_ok-bip65.bip65 c.in_ok-bip66.bip66 c.in_ok-csv.csv) bip34.0
+    ∙ ap (λ n. of_heights heights.bip34 n c.in_ok-bip66.bip66 c.in_ok-csv.csv) bip65.0
+    ∙ ap (λ n. of_heights heights.bip34 heights.bip65 n c.in_ok-csv.csv) bip66.0
+    ∙ ap (of_heights heights.bip34 heights.bip65 heights.bip66) (same_Some c.in_ok-csv.csv heights.csv csv)
+    ∙ sym spelling.no_other)

@@ -1,7 +1,7 @@
 use Rattle.std.proofs.Common.{◌≡◌, true, false, nat_lt, sum_by, List, [], ◌∷◌, Some, None, refl, sym, ◌∙◌}
 use Rattle.std.specs.List.{flat_map}
 use Rattle.txn.specs.declared.reason.Reason.TheVariants as reason
-use Rattle.txn.specs.declared.tx.Tx.{Tx}
+use Rattle.txn.specs.Tx.{Tx}
 use Rattle.txn.specs.Check.{tx_rules}
 use Rattle.txn.specs.First.{Rules}
 use Rattle.rules.specs.Alone.{max_block_sigops, tx_sigops}

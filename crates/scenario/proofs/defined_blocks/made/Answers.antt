@@ -1,5 +1,5 @@
 use Rattle.std.proofs.Common.{rules, ◌≡◌, ◌+◌, List, ap, subst, sym, ◌∙◌, option_map}
-use Rattle.txn.specs.declared.tx.Tx.{Tx}
+use Rattle.txn.specs.Tx.{Tx}
 use Rattle.scenario.specs.inside.DefinedBlocks.{IsMade, IsSealed, coinbase_said, with_first, txs_of, header_to_seal}
 use Rattle.scenario.proofs.defined_blocks.made.Goals as goal
 

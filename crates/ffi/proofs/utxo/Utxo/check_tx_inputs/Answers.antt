@@ -3,7 +3,7 @@ use Rattle.std.proofs.Common.{rules, ◌≡◌, ℕ, ℤ, Result, Ok, Err, Optio
 use Rattle.std.specs.Option.{option_or}
 use Rattle.std.specs.Result.{result_err}
 use Rattle.txn.specs.declared.reason.Reason.{Reason}
-use Rattle.txn.specs.declared.tx.Tx.{Tx}
+use Rattle.txn.specs.Tx.{Tx}
 use Rattle.txn.specs.Check.{tx_rules}
 use Rattle.txn.specs.First.{first_broken}
 use Rattle.txn.specs.laws.First.{first_of_both}

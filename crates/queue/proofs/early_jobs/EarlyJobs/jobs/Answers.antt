@@ -1,5 +1,5 @@
 use Rattle.std.proofs.Common.{rules, ◌≡◌, ℕ, ◌<◌, List, length, get_or, sym, ap₂, subst, ◌∙◌}
-use Rattle.txn.specs.declared.tx.Tx.{Tx}
+use Rattle.txn.specs.Tx.{Tx}
 use Rattle.sighash.specs.Midstates.{AreOf}
 use Rattle.queue.specs.declared.early_jobs.Listed.{Listed}
 use Rattle.interp.specs.Question.{question}

@@ -17,6 +17,13 @@ invariant_of-env g c = record {
   right = subst (λ (table : Triples). All (IsEarly (all_known table)) c.args.crews.now.early.now) (sym c.deref.ensures) (rw c.in-Table.is at c.requires.early);
 }
 
+pub invariant_of-env-in-Found : goal.invariant_of-env-in-Found
+invariant_of-env-in-Found g c = record {
+  ready = c.requires.crews.1;
+  few = (c.requires.crews.2, c.requires.crews.3);
+  right = rw c.in-Found.is at c.requires.early;
+}
+
 pub judge_over-reply-requires-clause-follows : goal.judge_over-reply-requires-clause-follows
 judge_over-reply-requires-clause-follows g c =
     let s = c.args.self.now in

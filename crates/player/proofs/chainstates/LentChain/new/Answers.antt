@@ -1,5 +1,5 @@
 use Rattle.std.proofs.Common.{sym, ◌∙◌}
-use Rattle.player.proofs.chainstates.Lent.new.Goals as goal
+use Rattle.player.proofs.chainstates.LentChain.new.Goals as goal
 
 pub invariant_of-result : goal.invariant_of-result
 invariant_of-result c =
