@@ -1,15 +1,15 @@
 -- What is read is spelled.
-use Rattle.std.proofs.Common.{◌≡◌, inl, inr, ℕ, List, [], ◌∷◌, ◌++◌, Some, None, Ok, Err, Result, refl, sym, ap, subst, ◌∙◌}
+use Rattle.std.proofs.Common.{◌≡◌, Bool, inl, inr, ℕ, List, [], ◌∷◌, ◌++◌, Some, None, Ok, Err, Result, refl, sym, ap, subst, ◌∙◌}
 use Rattle.std.proofs.lemmas.List.{append-nil}
 use Rattle.wire.specs.declared.fault.WireFault.{WireFault}
 use Rattle.wire.specs.Grammar.{Grammar, IsBytes}
 use Rattle.wire.specs.computed.Reader.{Part}
 use Rattle.wire.specs.laws.Reader.{Decides}
 use Rattle.block.specs.declared.block.Block.{Block}
-use Rattle.block.specs.Grammar.{block}
-use Rattle.block.specs.computed.Reader.{block_at}
-use Rattle.block.specs.laws.Reader.{block_decides}
-use Rattle.block.specs.BlockOfBytes.{unless_more, whole_block, block_of_bytes}
+use Rattle.block.specs.Grammar.{block_by}
+use Rattle.block.specs.computed.Reader.{block_by_at}
+use Rattle.block.specs.laws.Reader.{block_by_decides}
+use Rattle.block.specs.BlockOfBytes.{unless_more, whole_block, block_of_bytes_by}
 
 ok_is : {A : Type 0} (x y : A) → ◌≡◌ {A = Result A WireFault} (Ok x) (Ok y) → x ≡ y
 ok_is x y h = cc
@@ -32,12 +32,12 @@ alone : (x b : Block) (rest : List ℕ) → unless_more x rest ≡ Some b → (x
 alone x b [] h = (cc, refl)
 alone x b (y ∷ rest) h = absurd cc
 
-pub decoded-is-spelled : (bytes : List ℕ) (b : Block) → IsBytes bytes → block_of_bytes bytes ≡ Some b → block.Lawful b × (bytes ≡ block.spell b)
-decoded-is-spelled bytes b fits h = by (block_at bytes) refl
+pub decoded-is-spelled : (by : Bool) (bytes : List ℕ) (b : Block) → IsBytes bytes → block_of_bytes_by by bytes ≡ Some b → (block_by by).Lawful b × (bytes ≡ (block_by by).spell b)
+decoded-is-spelled by bytes b fits h = from (block_by_at by bytes) refl
   where
-    by : (read : Result (Block × List ℕ) WireFault) → block_at bytes ≡ read → block.Lawful b × (bytes ≡ block.spell b)
-    by (Ok x) e =
+    from : (read : Result (Block × List ℕ) WireFault) → block_by_at by bytes ≡ read → (block_by by).Lawful b × (bytes ≡ (block_by by).spell b)
+    from (Ok x) e =
         let is = alone x.0 b x.1 (sym (ap whole_block e) ∙ h) in
-        let front = read-spelled block block_at block_decides bytes x.1 x.0 fits e in
-        (subst block.Lawful is.0 front.0, front.1 ∙ ap (λ (y : Block). block.spell y ++ x.1) is.0 ∙ ap (λ (l : List ℕ). block.spell b ++ l) is.1 ∙ append-nil (block.spell b))
-    by (Err fault) e = let none : ◌≡◌ {A = _} None (Some b) = sym (ap whole_block e) ∙ h in absurd cc
+        let front = read-spelled (block_by by) (block_by_at by) (block_by_decides by) bytes x.1 x.0 fits e in
+        (subst (block_by by).Lawful is.0 front.0, front.1 ∙ ap (λ (y : Block). (block_by by).spell y ++ x.1) is.0 ∙ ap (λ (l : List ℕ). (block_by by).spell b ++ l) is.1 ∙ append-nil ((block_by by).spell b))
+    from (Err fault) e = let none : ◌≡◌ {A = _} None (Some b) = sym (ap whole_block e) ∙ h in absurd cc

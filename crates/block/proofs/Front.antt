@@ -12,7 +12,7 @@ use Rattle.block.specs.declared.header.Header.{Header}
 use Rattle.block.specs.declared.block.Block.{Block}
 use Rattle.block.specs.Grammar.{header}
 use Rattle.block.specs.BlockOfBytes.{unless_more, whole_block, block_of_bytes}
-use Rattle.block.specs.computed.Reader.{header_at, block_at}
+use Rattle.block.specs.computed.Reader.{header_at, block_by_at}
 use Rattle.block.specs.laws.Reader.{header_decides}
 
 abbrev Is : Block → Option Block → Type 0
@@ -32,7 +32,7 @@ of_header (Ok x) b e = of_txs x.0 (counted_at tx_at x.1) b e
 of_header (Err f) b e = absurd (subst (Is b) (sym e) refl)
 
 header_of_block : (bytes : List ℕ) (b : Block) → block_of_bytes bytes ≡ Some b → IsOkAnd (header_at bytes) (λ x. x.0 ≡ b.header)
-unfolding block_at
+unfolding block_by_at
 header_of_block bytes b e = of_header (header_at bytes) b e
 
 pub front_found : (bytes : List ℕ) (result : Result Header WireFault) (rest : List ℕ) → IsBytes bytes → Gives Some result rest (header_at bytes) → IfOk result (λ h. header.Lawful h × ((rest : List ℕ) × (bytes ≡ header.spell h ++ rest)))

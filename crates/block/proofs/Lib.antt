@@ -9,3 +9,4 @@ pub mod Records
 pub mod BlockBytes
 pub mod Tree
 pub mod Whole
+pub mod SameBlock

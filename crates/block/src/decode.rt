@@ -2,15 +2,15 @@
 
 ghost use Rattle.std.specs.Prelude.{◌≡◌, ◌⊎◌, ◌/◌, ◌++◌, ℕ, List, min, [], length, vec_capacity, IfOk, IfErr, IsOkAnd, IsOkUnless, Some, Err};
 ghost use Rattle.wire.specs.computed.Reader.{Gives, many_at, counted_at};
-ghost use Rattle.txn.specs.computed.Reader.{tx_at};
+ghost use Rattle.txn.specs.computed.WitnessReader.{tx_by_at};
 ghost use Rattle.txn.specs.Fault.{wire_fault_of};
-ghost use Rattle.block.specs.Grammar.{header, block};
-ghost use Rattle.block.specs.Whole.{Faulty};
-ghost use Rattle.block.specs.BlockOfBytes.{block_of_bytes, Decodes};
+ghost use Rattle.block.specs.Grammar.{header, block, block_by};
+ghost use Rattle.block.specs.Whole.{Faulty, FaultyBy};
+ghost use Rattle.block.specs.BlockOfBytes.{block_of_bytes, block_of_bytes_by, Decodes};
 ghost use Rattle.block.specs.declared.block.Block.{Block};
 ghost use Rattle.block.specs.declared.fault.ReadFault.{ReadFault};
 ghost use Rattle.block.specs.declared.fault.ReadFault.TheVariants.{Memory};
-ghost use Rattle.block.specs.computed.Reader.{id_at, header_at, block_at};
+ghost use Rattle.block.specs.computed.Reader.{id_at, header_at, block_by_at};
 ghost use Rattle.block.specs.inside.Room.{least_transaction};
 
 use crate::block::Block;
@@ -69,34 +69,40 @@ pub fn header_of(bytes: &[u8]) -> Result<Header, WireFault>
 }
 
 #[tactic(auto, unfolding(wire::specs::computed::Reader::counted_at))]
-fn txs(alloc: Global, bytes: &mut Cursor) -> Result<Txs, TxFault>
-    ensures { Gives wire_fault_of result bytes.new (counted_at tx_at bytes.old) }
+fn txs(alloc: Global, bytes: &mut Cursor, has_flag: bool) -> Result<Txs, TxFault>
+    ensures { Gives wire_fault_of result bytes.new (counted_at (tx_by_at has_flag) bytes.old) }
 {
     let count = bytes.compact()?;
     // A count alone takes no memory: there is no room for more than the bytes can spell.
     let empty = Vec::with_capacity(alloc, bytes.room(count, LEAST_TRANSACTION))?;
-    each_tx(alloc, bytes, count, empty)
+    each_tx(alloc, bytes, count, empty, has_flag)
 }
 
 /// Reads this many transactions into an empty list, with room for no more than the bytes can spell.
-fn each_tx(alloc: Global, bytes: &mut Cursor, count: u64, empty: Vec<Tx>) -> Result<Txs, TxFault>
+fn each_tx(
+    alloc: Global,
+    bytes: &mut Cursor,
+    count: u64,
+    empty: Vec<Tx>,
+    has_flag: bool,
+) -> Result<Txs, TxFault>
     requires empty { empty.items ≡ [] }
     requires room { vec_capacity empty ≡ min count (length bytes.old / least_transaction) }
-    ensures { Gives wire_fault_of result bytes.new (many_at tx_at count bytes.old) }
+    ensures { Gives wire_fault_of result bytes.new (many_at (tx_by_at has_flag) count bytes.old) }
 {
     let mut items = empty;
     for _ in 0..count {
-        items.push(txn::read(alloc, bytes)?)?;
+        items.push(txn::read_by(alloc, bytes, has_flag)?)?;
     }
     Ok(Txs::from_vec(items))
 }
 
-#[tactic(auto, unfolding(crate::specs::computed::Reader::block_at))]
-fn front(alloc: Global, bytes: &mut Cursor) -> Result<Block, TxFault>
-    ensures { Gives wire_fault_of result bytes.new (block_at bytes.old) }
+#[tactic(auto, unfolding(crate::specs::computed::Reader::block_by_at))]
+fn front(alloc: Global, bytes: &mut Cursor, has_flag: bool) -> Result<Block, TxFault>
+    ensures { Gives wire_fault_of result bytes.new (block_by_at has_flag bytes.old) }
 {
     let header = header(bytes)?;
-    let txs = txs(alloc, bytes)?;
+    let txs = txs(alloc, bytes, has_flag)?;
     Ok(Block { header, txs })
 }
 
@@ -117,8 +123,24 @@ pub fn read(alloc: Global, bytes: &[u8]) -> Result<Block, ReadFault>
     // The same, as a function of the bytes.
     ensures exact { Decodes result (block_of_bytes bytes.now) }
 {
+    read_by(alloc, bytes, false)
+}
+
+/// The same, of transactions with their witnesses where `has_flag` is true (BIP 144): see
+/// [`txn::read_by`](txn::read_by).
+pub fn read_by(alloc: Global, bytes: &[u8], has_flag: bool) -> Result<Block, ReadFault>
+    ensures found { IfOk result (λ b. (block_by has_flag).Lawful b
+        × (bytes.now ≡ (block_by has_flag).spell b)) }
+    ensures refused { IfErr result (λ e. (e ≡ Memory) ⊎ FaultyBy has_flag e bytes.now) }
+    ensures reads { (b : Block) → (block_by has_flag).Lawful b
+        → bytes.now ≡ (block_by has_flag).spell b
+        → IsOkUnless result Memory × IfOk result (λ x. x ≡ b) }
+    ensures refuses { (e : ReadFault) → FaultyBy has_flag e bytes.now
+        → (result ≡ Err Memory) ⊎ (result ≡ Err e) }
+    ensures exact { Decodes result (block_of_bytes_by has_flag bytes.now) }
+{
     let mut cursor = Cursor::new(bytes);
-    let block = front(alloc, &mut cursor)?;
+    let block = front(alloc, &mut cursor, has_flag)?;
     if !cursor.rest().is_empty() {
         return Err(ReadFault::Extra);
     }

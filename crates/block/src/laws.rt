@@ -1,6 +1,7 @@
 //! What holds of the grammars of blocks and of blk files, of Merkle trees, and of the genesis block.
 
-ghost use Rattle.std.specs.Prelude.{◌≡◌, ◌||◌, List, ℕ, [], ◌∷◌, ◌++◌, Ok, Some};
+ghost use Rattle.std.specs.Prelude.{◌≡◌, ◌||◌, Bool, true, List, ℕ, [], ◌∷◌, ◌++◌, Ok, Some};
+ghost use Rattle.std.specs.List.{AllByRecursion};
 ghost use Rattle.hash.specs.declared.id.Id.{Id};
 ghost use Rattle.wire.specs.Grammar.{IsBytes};
 ghost use Rattle.txn.specs.Tx.{Tx};
@@ -8,8 +9,8 @@ ghost use Rattle.txn.specs.Grammar.{transaction};
 ghost use Rattle.txn.specs.Identity as txn;
 ghost use Rattle.txn.specs.computed.Reader.{tx_at};
 ghost use Rattle.block.specs.declared.block.Block.{Block};
-ghost use Rattle.block.specs.Grammar.{block};
-ghost use Rattle.block.specs.BlockOfBytes.{block_of_bytes};
+ghost use Rattle.block.specs.Grammar.{block, block_by};
+ghost use Rattle.block.specs.BlockOfBytes.{block_of_bytes, block_of_bytes_by};
 ghost use Rattle.block.specs.laws.Files.{Splits, Gave, IsLast};
 ghost use Rattle.block.specs.Identity.{id_of};
 ghost use Rattle.block.specs.Merkle.{root, twin, has_twin, next};
@@ -47,6 +48,24 @@ pub fn what_is_spelled_is_read()
 pub fn what_is_read_is_spelled()
     ensures { (bytes : List ℕ) (b : Block) → IsBytes bytes → block_of_bytes bytes ≡ Some b
         → block.Lawful b × (bytes ≡ block.spell b) }
+{}
+
+/// The same of both grammars: no spelling begins another, what is spelled is read again, and what is read is spelled.
+pub fn what_is_spelled_with_witnesses_is_read()
+    ensures front { (by : Bool) (a b : Block) (more : List ℕ)
+        → (block_by by).Lawful a → (block_by by).Lawful b
+        → (block_by by).spell b ≡ (block_by by).spell a ++ more → (a ≡ b) × (more ≡ []) }
+    ensures read { (by : Bool) (b : Block) → (block_by by).Lawful b
+        → block_of_bytes_by by ((block_by by).spell b) ≡ Some b }
+    ensures spelled { (by : Bool) (bytes : List ℕ) (b : Block) → IsBytes bytes
+        → block_of_bytes_by by bytes ≡ Some b
+        → (block_by by).Lawful b × (bytes ≡ (block_by by).spell b) }
+{}
+
+/// A block that is read without witnesses is read the same with them, where each of its transactions has an input (BIP 144).
+pub fn a_block_with_inputs_is_read_the_same()
+    ensures { (bytes : List ℕ) (b : Block) → IsBytes bytes → block_of_bytes bytes ≡ Some b
+        → AllByRecursion (λ t. ¬ (t.inputs ≡ [])) b.txs → block_of_bytes_by true bytes ≡ Some b }
 {}
 
 /// Bytes that begin with what is read as a transaction begin with its spelling, and it is lawful. So a transaction is read

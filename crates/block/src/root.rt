@@ -3,10 +3,12 @@
 ghost use Rattle.std.specs.Prelude.{◌≡◌, ◌<◌, IfOk, length};
 ghost use Rattle.block.specs.Merkle as tree;
 
+use crate::block::Block;
 use hash::{Id, finish};
 use lanes::pairs;
 use sha2::{Digest, Sha256};
 use std::alloc::Global;
+use txn::witness_ids;
 use wire::Memory;
 
 /// The root of the Merkle tree of these ids, and whether two equal ids are paired in it: another list, in
@@ -25,6 +27,16 @@ pub fn merkle(alloc: Global, ids: &[Id]) -> Result<(Id, bool), Memory>
     }
     let root = last(level.as_slice());
     Ok((root, twin))
+}
+
+/// The root of the Merkle tree of a block's ids with witnesses, which its coinbase commits to (BIP 141, Bitcoin Core's
+/// `BlockWitnessMerkleRoot`).
+pub fn witness_root(alloc: Global, block: &Block) -> Result<Id, Memory>
+    ensures { IfOk result (λ root. root ≡ tree.witness_root block.now.txs) }
+{
+    let ids = witness_ids(alloc, block.txs.as_slice())?;
+    let (root, _) = merkle(alloc, ids.as_slice())?;
+    Ok(root)
 }
 
 /// The root of the highest level.

@@ -1,6 +1,7 @@
 //! Transactions: their parts, their bytes, their ids, and the reasons for which a block is refused.
 #![tactic(auto)]
 
+mod block_ids;
 mod check_transaction;
 mod decode;
 mod encode;
@@ -14,9 +15,11 @@ mod output;
 mod reason;
 mod script;
 pub mod sequence;
+pub mod sizes;
 mod tx;
 mod witness_decode;
 
+pub use block_ids::witness_ids;
 pub use check_transaction::{MAX_COINBASE_SCRIPT, MAX_MONEY, MIN_COINBASE_SCRIPT, check};
 pub use decode::read;
 pub use encode::write;

@@ -1,7 +1,7 @@
 -- Reading from left to right, with the first fault that is met.
-use Rattle.std.specs.Prelude.{Ok}
+use Rattle.std.specs.Prelude.{Ok, Bool, false}
 use Rattle.wire.specs.computed.Reader.{◌>>=◌, Part, piece_at, number_at, i32_at, counted_at}
-use Rattle.txn.specs.computed.Reader.{tx_at}
+use Rattle.txn.specs.computed.WitnessReader.{tx_by_at}
 use Rattle.hash.specs.declared.id.Id.{Id}
 use Rattle.block.specs.declared.header.Header.{Header}
 use Rattle.block.specs.declared.block.Block.{Block}
@@ -21,8 +21,11 @@ header_at bytes = do
   nonce ← number_at 4 bits.1
   Ok (record { version = version.0; prev = prev.0; root = root.0; time = time.0; bits = bits.0; nonce = nonce.0 }, nonce.1)
 
-unfoldable pub block_at : Part Block
-block_at bytes = do
+unfoldable pub block_by_at : Bool → Part Block
+block_by_at has_flag bytes = do
   header ← header_at bytes
-  txs ← counted_at tx_at header.1
+  txs ← counted_at (tx_by_at has_flag) header.1
   Ok (record { header = header.0; txs = txs.0 }, txs.1)
+
+abbrev pub block_at : Part Block
+block_at = block_by_at false

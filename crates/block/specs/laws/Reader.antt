@@ -1,5 +1,5 @@
 -- Reading decides the grammar of blocks.
-use Rattle.std.proofs.Common.{ℕ, List, refl}
+use Rattle.std.proofs.Common.{Bool, false, ℕ, List, refl}
 use Rattle.std.specs.Prelude.{ℤ}
 use Rattle.wire.specs.Grammar.{piece, number, signed32, pair, counted_list}
 use Rattle.wire.specs.computed.Reader.{Part, piece_at, number_at, i32_at, counted_at}
@@ -7,13 +7,13 @@ use Rattle.wire.specs.laws.Reader.{Decides, both, made, wide4, piece_decides, nu
 use Rattle.wire.specs.laws.Counts.{counted_decides}
 use Rattle.hash.specs.declared.id.Id.{Id}
 use Rattle.txn.specs.Tx.{Tx}
-use Rattle.txn.specs.Grammar.{transaction}
-use Rattle.txn.specs.computed.Reader.{tx_at}
-use Rattle.txn.specs.laws.Reader.{transaction_decides}
+use Rattle.txn.specs.WitnessGrammar.{transaction_by}
+use Rattle.txn.specs.computed.WitnessReader.{tx_by_at}
+use Rattle.txn.specs.laws.WitnessReader.{transaction_by_decides}
 use Rattle.block.specs.declared.header.Header.{Header}
 use Rattle.block.specs.declared.block.Block.{Block}
-use Rattle.block.specs.Grammar.{id, header, block}
-use Rattle.block.specs.computed.Reader.{id_at, header_at, block_at}
+use Rattle.block.specs.Grammar.{id, header, block_by, block}
+use Rattle.block.specs.computed.Reader.{id_at, header_at, block_by_at, block_at}
 
 pub id_decides : Decides id id_at
 unfolding id_at
@@ -36,13 +36,17 @@ header_decides =
     (fields_decides (pair signed32 (pair id (pair id (pair (number 4) (pair (number 4) (number 4)))))) parts to (λ h. (h.version, (h.prev, (h.root, (h.time, (h.bits, h.nonce)))))) six (λ y. refl) (λ x. refl))
     (λ bytes. simp bind_assoc)
 
-pub block_decides : Decides block block_at
-unfolding block_at
-block_decides =
+pub block_by_decides : (by : Bool) → Decides (block_by by) (block_by_at by)
+unfolding block_by_at
+block_by_decides by =
     let to : Header × List Tx → Block = λ p. record { header = p.0; txs = p.1 } in
-    let parts : Part (Header × List Tx) = both header_at (counted_at tx_at) in
-    along block (made to parts) block_at
-    (fields_decides (pair header (counted_list transaction)) parts to (λ b. (b.header, b.txs))
-    (pair_decides header (counted_list transaction) header_at (counted_at tx_at) header_decides (counted_decides transaction tx_at transaction_decides))
+    let txs : Part (List Tx) = counted_at (tx_by_at by) in
+    let parts : Part (Header × List Tx) = both header_at txs in
+    along (block_by by) (made to parts) (block_by_at by)
+    (fields_decides (pair header (counted_list (transaction_by by))) parts to (λ b. (b.header, b.txs))
+    (pair_decides header (counted_list (transaction_by by)) header_at txs header_decides (counted_decides (transaction_by by) (tx_by_at by) (transaction_by_decides by)))
     (λ y. refl) (λ x. refl))
     (λ bytes. simp bind_assoc)
+
+pub block_decides : Decides block block_at
+block_decides = block_by_decides false

@@ -22,7 +22,7 @@ use Rattle.block.specs.Grammar.{header}
 use Rattle.block.specs.Identity.{id_of}
 use Rattle.hash.specs.Id.{same_id}
 use Rattle.block.specs.Merkle.{root, twin}
-use Rattle.block.specs.Sizes.{size_of}
+use Rattle.block.specs.Sizes.{size_of, size_by}
 use Rattle.block.specs.Target.{meets_target}
 use Rattle.wire.specs.Grammar.{number}
 use Rattle.wire.specs.Numbers.{compact_size, i32le, i64le}
@@ -78,7 +78,7 @@ each_short (t ∷ txs) n h =
     (omega (arith, tx_long t, parts), each_short txs n (omega (arith, parts)))
 
 txs_short : (b : Block) → length (flat_map transaction.spell b.txs) ≤ size_of b
-unfolding size_of
+unfolding size_by
 txs_short b = omega (arith, length-append (header.spell b.header) (compact_size (length b.txs) ++ flat_map transaction.spell b.txs), length-append (compact_size (length b.txs)) (flat_map transaction.spell b.txs))
 
 -- ---- rules of which none is broken

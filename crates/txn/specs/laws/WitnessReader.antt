@@ -161,11 +161,20 @@ lawful_same : (version : ℤ) (i : TxIn) (is : List TxIn) (outputs : List TxOut)
     → transaction.Lawful (with_input version i is outputs lock_time) → witness_transaction.Lawful (with_input version i is outputs lock_time)
 lawful_same version i is outputs lock_time h = (h.0, (h.1.0.0, (h.1.0.1, h.1.1)))
 
--- so what is read without witnesses is read the same with them
-pub read_same : (bytes : List ℕ) (t : Tx) (rest : List ℕ) (i : TxIn) (is : List TxIn) → IsBytes bytes → tx_at bytes ≡ Ok (t, rest) → t.inputs ≡ i ∷ is → witness_tx_at bytes ≡ Ok (t, rest)
-read_same bytes t rest i is fits read has =
-    let f = found_law transaction tx_at transaction_decides bytes t rest fits read in
-    let none : t.witnesses ≡ [] = f.0.1.1.1.0 in
+by_inputs : (t : Tx) (inputs : List TxIn) → t.inputs ≡ inputs → ¬ (inputs ≡ []) → transaction.Lawful t → witness_transaction.Lawful t × (witness_transaction.spell t ≡ transaction.spell t)
+by_inputs t [] has some lawful = absurd (some refl)
+by_inputs t (i ∷ is) has some lawful =
+    let none : t.witnesses ≡ [] = lawful.1.1.1.0 in
     let e : t ≡ with_input t.version i is t.outputs t.lock_time = λ j. record { version = t.version; inputs = has j; outputs = t.outputs; lock_time = t.lock_time; witnesses = none j } in
-    let lawful : witness_transaction.Lawful t = subst witness_transaction.Lawful (sym e) (lawful_same t.version i is t.outputs t.lock_time (subst transaction.Lawful e f.0)) in
-    ap witness_tx_at (f.1 ∙ ap (λ (s : List ℕ). s ++ rest) (sym (same_spelling t i is has none))) ∙ witness_transaction_decides.again t rest lawful
+    (subst witness_transaction.Lawful (sym e) (lawful_same t.version i is t.outputs t.lock_time (subst transaction.Lawful e lawful)), same_spelling t i is has none)
+
+-- what the grammar without witnesses spells of a transaction with an input is lawful with them, and spelled the same
+pub lawful_in_both : (t : Tx) → ¬ (t.inputs ≡ []) → transaction.Lawful t → witness_transaction.Lawful t × (witness_transaction.spell t ≡ transaction.spell t)
+lawful_in_both t some lawful = by_inputs t t.inputs refl some lawful
+
+-- so what is read without witnesses is read the same with them
+pub read_same : (bytes : List ℕ) (t : Tx) (rest : List ℕ) → IsBytes bytes → tx_at bytes ≡ Ok (t, rest) → ¬ (t.inputs ≡ []) → witness_tx_at bytes ≡ Ok (t, rest)
+read_same bytes t rest fits read some =
+    let f = found_law transaction tx_at transaction_decides bytes t rest fits read in
+    let both = lawful_in_both t some f.0 in
+    ap witness_tx_at (f.1 ∙ ap (λ (s : List ℕ). s ++ rest) (sym both.1)) ∙ witness_transaction_decides.again t rest both.0
