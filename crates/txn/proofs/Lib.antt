@@ -5,4 +5,5 @@ pub mod Lengths
 pub mod Marks
 pub mod RuleOrder
 pub mod Spelling
+pub mod WitnessLawful
 pub mod OutpointOrder

@@ -34,7 +34,7 @@ fn knows_outpoint(p: OutPoint)
 }
 
 #[tactic(auto, using(wire::specs::laws::Extension::extending))]
-fn put_script(out: &mut Vec<u8>, s: &Script) -> Result<(), Memory>
+pub(crate) fn put_script(out: &mut Vec<u8>, s: &Script) -> Result<(), Memory>
     ensures written { OnOk result (out.new.items ≡ out.old.items ++ sized_bytes.spell s.now) }
     ensures extends { Extends out.old.items out.new.items }
     ensures lawful { length s.now ≤ limit → sized_bytes.Lawful s.now }
@@ -68,7 +68,7 @@ fn put_tx_out(out: &mut Vec<u8>, o: &TxOut) -> Result<(), Memory>
 }
 
 #[tactic(auto, using(wire::specs::laws::Extension::extending))]
-fn put_inputs(out: &mut Vec<u8>, inputs: &Parts<TxIn>) -> Result<(), Memory>
+pub(crate) fn put_inputs(out: &mut Vec<u8>, inputs: &Parts<TxIn>) -> Result<(), Memory>
     ensures written { OnOk result (out.new.items
         ≡ out.old.items ++ (counted_list input).spell inputs.now) }
     ensures extends { Extends out.old.items out.new.items }
@@ -83,7 +83,7 @@ fn put_inputs(out: &mut Vec<u8>, inputs: &Parts<TxIn>) -> Result<(), Memory>
 }
 
 #[tactic(auto, using(wire::specs::laws::Extension::extending))]
-fn put_outputs(out: &mut Vec<u8>, outputs: &Outputs) -> Result<(), Memory>
+pub(crate) fn put_outputs(out: &mut Vec<u8>, outputs: &Outputs) -> Result<(), Memory>
     ensures written { OnOk result (out.new.items
         ≡ out.old.items ++ (counted_list output).spell outputs.now) }
     ensures extends { Extends out.old.items out.new.items }
@@ -98,7 +98,7 @@ fn put_outputs(out: &mut Vec<u8>, outputs: &Outputs) -> Result<(), Memory>
 }
 
 #[tactic(auto, using(wire::specs::laws::Extension::extending))]
-fn put_tx(out: &mut Vec<u8>, t: &Tx) -> Result<(), Memory>
+pub(crate) fn put_tx(out: &mut Vec<u8>, t: &Tx) -> Result<(), Memory>
     ensures written { OnOk result (out.new.items ≡ out.old.items ++ transaction.spell t.now) }
     ensures extends { Extends out.old.items out.new.items }
     ensures lawful { OnOk result (IsWithinLimits t.now → transaction.Lawful t.now) }

@@ -18,6 +18,7 @@ pub mod sequence;
 pub mod sizes;
 mod tx;
 mod witness_decode;
+mod witness_encode;
 
 pub use block_ids::witness_ids;
 pub use check_transaction::{MAX_COINBASE_SCRIPT, MAX_MONEY, MIN_COINBASE_SCRIPT, check};
@@ -32,3 +33,4 @@ pub use reason::Reason;
 pub use script::Script;
 pub use tx::{LOCKTIME_THRESHOLD, Tx};
 pub use witness_decode::read_by;
+pub use witness_encode::write_by;

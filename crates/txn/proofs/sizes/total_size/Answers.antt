@@ -1,7 +1,7 @@
-use Rattle.std.proofs.Common.{◌≡◌, ℕ, ◌+◌, ◌-◌, ◌^◌, length, sum_by, min, true, false, List, [], ap, sym, ◌∙◌, arith}
+use Rattle.std.proofs.Common.{◌≡◌, ℕ, ◌-◌, ◌^◌, length, sum_by, min, true, false, List, [], ap, sym, ◌∙◌, arith}
 use Rattle.txn.specs.Tx.{Tx, Witness}
 use Rattle.txn.specs.Grammar.{transaction}
-use Rattle.txn.specs.WitnessGrammar.{witness, has_witness, witness_transaction}
+use Rattle.txn.specs.WitnessGrammar.{witness, has_witness}
 use Rattle.txn.proofs.Spelling.{one_spelling}
 use Rattle.txn.proofs.Lengths.{with_witnesses, no_inputs}
 use Rattle.txn.proofs.sizes.total_size.Goals as goal
