@@ -3,9 +3,9 @@
 ghost use Rattle.std.specs.Prelude.{◌≡◌, ◌++◌, OnOk, OnErr};
 ghost use Rattle.wire.specs.Grammar.{counted_list};
 ghost use Rattle.wire.specs.laws.Extension.{Extends};
-ghost use Rattle.txn.specs.Grammar.{transaction};
+ghost use Rattle.txn.specs.WitnessGrammar.{transaction_by};
 ghost use Rattle.block.specs.Grammar as grammar;
-ghost use Rattle.block.specs.Limits.{AreWithin, IsWithinLimits};
+ghost use Rattle.block.specs.Limits.{AreWithin, IsWithinLimits, IsWithinLimitsBy};
 
 use crate::block::Block;
 use crate::header::Header;
@@ -37,31 +37,33 @@ fn knows_header(h: Header)
 }
 
 #[tactic(auto, using(wire::specs::laws::Extension::extending))]
-fn put_txs(out: &mut Vec<u8>, txs: &Txs) -> Result<(), Memory>
+fn put_txs(out: &mut Vec<u8>, txs: &Txs, has_flag: bool) -> Result<(), Memory>
     ensures written { OnOk result (out.new.items
-        ≡ out.old.items ++ (counted_list transaction).spell txs.now) }
+        ≡ out.old.items ++ (counted_list (transaction_by has_flag)).spell txs.now) }
     ensures extends { Extends out.old.items out.new.items }
-    ensures lawful { OnOk result (AreWithin txs.now → (counted_list transaction).Lawful txs.now) }
+    ensures lawful { OnOk result (AreWithin has_flag txs.now
+        → (counted_list (transaction_by has_flag)).Lawful txs.now) }
 {
     put_compact(out, txs.len() as u64)?;
     for tx in txs.as_slice() {
-        txn::write(tx, out)?;
+        txn::write_by(tx, out, has_flag)?;
     }
     Ok(())
 }
 
 #[tactic(auto, using(wire::specs::laws::Extension::extending))]
-fn put_block(out: &mut Vec<u8>, b: &Block) -> Result<(), Memory>
-    ensures written { OnOk result (out.new.items ≡ out.old.items ++ grammar.block.spell b.now) }
+fn put_block(out: &mut Vec<u8>, b: &Block, has_flag: bool) -> Result<(), Memory>
+    ensures written { OnOk result (out.new.items
+        ≡ out.old.items ++ (grammar.block_by has_flag).spell b.now) }
     ensures extends { Extends out.old.items out.new.items }
-    ensures lawful { OnOk result (IsWithinLimits b.now → grammar.block.Lawful b.now) }
+    ensures lawful { OnOk result (IsWithinLimitsBy has_flag b.now
+        → (grammar.block_by has_flag).Lawful b.now) }
 {
     put_header(out, &b.header)?;
-    put_txs(out, &b.txs)
+    put_txs(out, &b.txs, has_flag)
 }
 
-/// Writes the bytes of a block at the end.
-#[tactic(auto, using(wire::specs::laws::Extension::extending))]
+/// Writes the bytes of a block at the end, without witnesses.
 pub fn write(block: &Block, out: &mut Vec<u8>) -> Result<(), Memory>
     ensures written { OnOk result (out.new.items ≡ out.old.items ++ grammar.block.spell block.now) }
     ensures kept { OnErr result (out.new.items ≡ out.old.items) }
@@ -69,8 +71,22 @@ pub fn write(block: &Block, out: &mut Vec<u8>) -> Result<(), Memory>
     // script is too long.
     ensures lawful { OnOk result (IsWithinLimits block.now → grammar.block.Lawful block.now) }
 {
+    write_by(block, out, false)
+}
+
+/// The same, of transactions with their witnesses where `has_flag` is true (BIP 144).
+#[tactic(auto, using(wire::specs::laws::Extension::extending))]
+pub fn write_by(block: &Block, out: &mut Vec<u8>, has_flag: bool) -> Result<(), Memory>
+    ensures written { OnOk result (out.new.items
+        ≡ out.old.items ++ (grammar.block_by has_flag).spell block.now) }
+    ensures kept { OnErr result (out.new.items ≡ out.old.items) }
+    // What is written is lawful, and so read again, unless a list or a string is too long, witnesses lack, or a
+    // transaction has outputs and no input.
+    ensures lawful { OnOk result (IsWithinLimitsBy has_flag block.now
+        → (grammar.block_by has_flag).Lawful block.now) }
+{
     let before = out.len();
-    let written = put_block(out, block);
+    let written = put_block(out, block, has_flag);
     if written.is_err() {
         out.truncate(before);
     }

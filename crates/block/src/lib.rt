@@ -25,7 +25,7 @@ pub use blk_fault::BlkFault;
 pub use block::Block;
 pub use bytes::Bytes;
 pub use decode::{header_of, read, read_by};
-pub use encode::write;
+pub use encode::{write, write_by};
 pub use fault::ReadFault;
 pub use genesis::{GENESIS, GENESIS_ID, GENESIS_ROOT, GENESIS_TIME};
 pub use header::Header;
