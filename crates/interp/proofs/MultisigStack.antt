@@ -8,7 +8,7 @@ use borrow.Author.Tests.{lt-ltb, le-ltb}
 use Rattle.std.specs.Option.{option_map, option_map_or}
 use Rattle.signatures.specs.Known.{Known}
 use Rattle.interp.specs.Answer.{answer_map, on_some}
-use Rattle.interp.specs.Question.{Question}
+use Rattle.interp.specs.Running.{Running}
 use Rattle.interp.specs.Stack.{Stack, Bytes, nth}
 use Rattle.interp.specs.Elements.{truth_bytes, natural_of}
 use Rattle.interp.specs.State.{State}
@@ -144,18 +144,18 @@ unfolding multisig_of counts_of many
 agree s [] is = neither s (rw is refl) (rw is refl)
 agree s (a ∷ rest) is = by-first s a rest is (natural_of 4 a) refl
 
-pub taking : (known : Known) (q : Question) (s : State) → after_multisig known q s ≡ on_some (after_counts known q s) (counts_of s)
+pub taking : (known : Known) (r : Running) (s : State) → after_multisig known r s ≡ on_some (after_counts known r s) (counts_of s)
 unfolding after_multisig
-taking known q s = by (counts_of s) refl
+taking known r s = by (counts_of s) refl
   where
     both : Agree s
     both = agree s s.main refl
 
-    by : (o : Option (ℕ × ℕ)) → counts_of s ≡ o → after_multisig known q s ≡ on_some (after_counts known q s) (counts_of s)
+    by : (o : Option (ℕ × ℕ)) → counts_of s ≡ o → after_multisig known r s ≡ on_some (after_counts known r s) (counts_of s)
     by None e = rw (both.0, e) refl
     by (Some counts) e =
         rw (both.0, e)
-        (ap (λ many. answer_map (option_map (λ valid. record s { main = truth_bytes valid ∷ drop (counts.0 + counts.1 + 3) s.main; count = s.count + many })) (multisig_answer known q s.code s.main counts)) (both.1 counts e))
+        (ap (λ many. answer_map (option_map (λ valid. record s { main = truth_bytes valid ∷ drop (counts.0 + counts.1 + 3) s.main; count = s.count + many })) (multisig_answer known r s.code s.main counts)) (both.1 counts e))
 
 -- ---- the element more
 dummy-is : (s : State) (o : Option (ℕ × ℕ)) → counts_of s ≡ o → dummy_of s ≡ option_map_or (λ counts. dummy_in counts s.main) o []

@@ -9,36 +9,38 @@ use Rattle.txn.specs.declared.input.TxIn.{TxIn}
 use Rattle.signatures.specs.Known.{Known}
 use Rattle.interp.specs.Answer.{Says}
 use Rattle.interp.specs.Question.{Question}
+use Rattle.interp.specs.Running.{Running}
 use Rattle.interp.specs.Stack.{Stack}
 use Rattle.interp.specs.State.{State, start}
 use Rattle.interp.specs.computed.NamedFailures.{Named, ◌>>=◌, step_named, run_named, end_named, eval_script, inner_named, verify_with_script, verify_script}
 use Rattle.interp.specs.declared.script_error.ScriptError.TheVariants.{UnknownError, EvalFalse, ScriptSize}
 use Rattle.interp.specs.laws.Runs.{whole}
 
-module _ (known : Known) (q : Question) where
+module _ (known : Known) (r : Running) where
   -- an opcode comes to this
-  pub named-more : (bytes op more : List ℕ) (s : State) (left : Named State) → ops bytes ≡ op ∷ ops more → bytes ≡ op ++ more → step_named known q more op s ≡ left
-      → run_named known q (rest bytes) (ops bytes) s ≡ left >>= run_named known q (rest more) (ops more)
+  pub named-more : (bytes op more : List ℕ) (s : State) (left : Named State) → ops bytes ≡ op ∷ ops more → bytes ≡ op ++ more → step_named known r more op s ≡ left
+      → run_named known r (rest bytes) (ops bytes) s ≡ left >>= run_named known r (rest more) (ops more)
   unfolding run_named
   named-more bytes op more s left first w is =
-      ap (λ left. run_named known q left (ops bytes) s) (rest-more bytes op more first w)
-      ∙ ap (λ list. run_named known q (rest more) list s) first
-      ∙ ap (λ after. step_named known q after op s >>= run_named known q (rest more) (ops more)) (sym (whole more))
-      ∙ ap (λ a. a >>= run_named known q (rest more) (ops more)) is
+      ap (λ left. run_named known r left (ops bytes) s) (rest-more bytes op more first w)
+      ∙ ap (λ list. run_named known r (rest more) list s) first
+      ∙ ap (λ after. step_named known r after op s >>= run_named known r (rest more) (ops more)) (sym (whole more))
+      ∙ ap (λ a. a >>= run_named known r (rest more) (ops more)) is
 
-  pub named-ended : (bytes : List ℕ) (s : State) → ops bytes ≡ [] → run_named known q (rest bytes) (ops bytes) s ≡ Says (Ok s)
+  pub named-ended : (bytes : List ℕ) (s : State) → ops bytes ≡ [] → run_named known r (rest bytes) (ops bytes) s ≡ Says (Ok s)
   unfolding run_named
   named-ended bytes s e = rw e refl
 
-  pub eval-long : (script : List ℕ) (stack : Stack) → 10000 < length script → eval_script known q script stack ≡ Says (Err ScriptSize)
+  pub eval-long : (script : List ℕ) (stack : Stack) → 10000 < length script → eval_script known r script stack ≡ Says (Err ScriptSize)
   unfolding eval_script
   eval-long script stack h = rw (lt-ltb 10000 (length script) h) refl
 
   pub eval-ran : (script : List ℕ) (stack : Stack) → length script ≤ 10000
-      → eval_script known q script stack ≡ run_named known q (rest script) (ops script) (start script stack) >>= end_named (is_whole script)
+      → eval_script known r script stack ≡ run_named known r (rest script) (ops script) (start script stack) >>= end_named (is_whole script)
   unfolding eval_script
   eval-ran script stack h = rw (le-ltb 10000 (length script) h) refl
 
+module _ (known : Known) (q : Question) where
   pub inner-none : (script : List ℕ) (left : Stack) → is_push_only script ≡ true → length left ≡ 0 → inner_named known q script left ≡ Says (Err EvalFalse)
   unfolding inner_named
   inner-none script [] only h = rw only refl

@@ -6,12 +6,11 @@ use Rattle.std.proofs.lemmas.List.{get_or-map, length-map}
 use Rattle.std.proofs.lemmas.Bool.{cases_lt, eq-eqb}
 use borrow.Author.Tests.{ne_eqb, lt-ltb, le-ltb}
 use Rattle.script.specs.Removal.{bytes_of}
-use Rattle.sighash.specs.Digest.{digest_of}
 use Rattle.signatures.specs.Known.{Known}
 use Rattle.signatures.specs.Triple.{Triple, triple_of}
 use Rattle.interp.specs.Answer.{Answer, Says, Wants, answer_map, and_then}
-use Rattle.interp.specs.Question.{Question}
-use Rattle.interp.specs.Signatures.{signed_code, signature_proper, type_of}
+use Rattle.interp.specs.Running.{Running, digest_with, code_with}
+use Rattle.interp.specs.Signatures.{signature_proper, type_of}
 use Rattle.signatures.specs.computed.Shape.{is_strict}
 use Rattle.interp.specs.declared.flags.Flags.{Flags}
 use Rattle.interp.specs.Stack.{Bytes, Stack, nth}
@@ -31,41 +30,41 @@ nth-bytes xs k d h = get_or-map (λ x. x.now) xs k d [] h
 pub many : (xs : List (Bor (List ℕ))) → length (bytes_of xs) ≡ length xs
 many xs = length-map xs (λ x. x.now)
 
-module _ (known : Known) (q : Question) (code : List ℕ) where
+module _ (known : Known) (r : Running) (code : List ℕ) where
   -- ---- a pair
-  pub pair-unshaped : (signature key : Bytes) → may_be_tried q.flags signature ≡ false → pair_verdict known q code signature key ≡ Says None
+  pub pair-unshaped : (signature key : Bytes) → may_be_tried r.flags signature ≡ false → pair_verdict known r code signature key ≡ Says None
   unfolding pair_verdict
   pair-unshaped signature key shaped = rw shaped refl
 
-  pub pair-empty : (signature key : Bytes) → may_be_tried q.flags signature ≡ true → length signature ≡ 0 → pair_verdict known q code signature key ≡ Says (Some false)
+  pub pair-empty : (signature key : Bytes) → may_be_tried r.flags signature ≡ true → length signature ≡ 0 → pair_verdict known r code signature key ≡ Says (Some false)
   unfolding pair_verdict
   pair-empty signature key shaped none = rw (shaped, none) refl
 
-  pub pair-asked : (signature key digest : Bytes) → may_be_tried q.flags signature ≡ true → 0 < length signature → digest ≡ digest_of q.tx q.input code (type_of signature)
-      → pair_verdict known q code signature key
+  pub pair-asked : (signature key digest : Bytes) → may_be_tried r.flags signature ≡ true → 0 < length signature → digest ≡ digest_with r.value r.tx r.input code (type_of signature)
+      → pair_verdict known r code signature key
       ≡ answer_map Some (verdict_or_wanted (known (triple_of key (signature_proper signature) digest)) (triple_of key (signature_proper signature) digest))
   unfolding pair_verdict
   pair-asked signature key digest shaped some is = rw (shaped, ne_eqb (length signature) 0 (λ e. omega arith), is) refl
 
   -- ---- all pairs
-  none-left : (signatures keys : List Bytes) (used : ℕ) → length signatures ≤ used → pairs_verdict known q code (drop used signatures) keys ≡ Says (Some true)
+  none-left : (signatures keys : List Bytes) (used : ℕ) → length signatures ≤ used → pairs_verdict known r code (drop used signatures) keys ≡ Says (Some true)
   unfolding pairs_verdict
   none-left signatures keys used h = by (drop used signatures) (omega (arith, length-drop used signatures))
     where
-      by : (xs : List Bytes) → length xs ≡ 0 → pairs_verdict known q code xs keys ≡ Says (Some true)
+      by : (xs : List Bytes) → length xs ≡ 0 → pairs_verdict known r code xs keys ≡ Says (Some true)
       by [] none = refl
       by (x ∷ xs) none = absurd (omega arith)
 
-  too-few : (signatures keys : List Bytes) (used : ℕ) → used < length signatures → length keys < length signatures - used → pairs_verdict known q code (drop used signatures) keys ≡ Says (Some false)
+  too-few : (signatures keys : List Bytes) (used : ℕ) → used < length signatures → length keys < length signatures - used → pairs_verdict known r code (drop used signatures) keys ≡ Says (Some false)
   unfolding pairs_verdict
   too-few signatures [] used h few = rw (split signatures used h) refl
   too-few signatures (k ∷ keys) used h few =
       rw (split signatures used h, lt-ltb (length keys) (length (drop (used + 1) signatures)) (omega (arith, length-drop (used + 1) signatures))) refl
 
   next : (signatures keys : List Bytes) (used place : ℕ) → used < length signatures → place < length keys → length signatures - used ≤ length keys - place
-      → pairs_verdict known q code (drop used signatures) (drop place keys)
-      ≡ and_then (λ valid. if valid then pairs_verdict known q code (drop (used + 1) signatures) (drop (place + 1) keys) else pairs_verdict known q code (drop used signatures) (drop (place + 1) keys))
-      (pair_verdict known q code (nth signatures used) (nth keys place))
+      → pairs_verdict known r code (drop used signatures) (drop place keys)
+      ≡ and_then (λ valid. if valid then pairs_verdict known r code (drop (used + 1) signatures) (drop (place + 1) keys) else pairs_verdict known r code (drop used signatures) (drop (place + 1) keys))
+      (pair_verdict known r code (nth signatures used) (nth keys place))
   unfolding pairs_verdict
   next signatures keys used place h below enough =
       rw (split signatures used h, split keys place below, le-ltb (length (drop (place + 1) keys)) (length (drop (used + 1) signatures)) (omega (arith, length-drop (place + 1) keys, length-drop (used + 1) signatures))) refl
@@ -92,9 +91,9 @@ pub some-there : (n : ℕ) → false ≡ eqb n 0 → 0 < n
 some-there zero e = cc
 some-there (suc n) e = omega arith
 
-module _ (known : Known) (q : Question) (code : List ℕ) (signatures keys : List (Bor (List ℕ))) (used place : ℕ) where
+module _ (known : Known) (r : Running) (code : List ℕ) (signatures keys : List (Bor (List ℕ))) (used place : ℕ) where
   abbrev left : ℕ → ℕ → Answer (Option Bool)
-  left used place = pairs_verdict known q code (drop used (bytes_of signatures)) (drop place (bytes_of keys))
+  left used place = pairs_verdict known r code (drop used (bytes_of signatures)) (drop place (bytes_of keys))
 
   -- what comes next, once the verdict on the pair is known
   abbrev onward : Bool → Answer (Option Bool)
@@ -105,36 +104,36 @@ module _ (known : Known) (q : Question) (code : List ℕ) (signatures keys : Lis
     where
       by : (used < length signatures) ⊎ (length signatures ≤ used) → left used place ≡ Says (Some (used == length signatures))
       by (inl h) =
-          too-few known q code (bytes_of signatures) (drop place (bytes_of keys)) used (omega (arith, many signatures)) (omega (arith, many signatures, many keys, length-drop place (bytes_of keys)))
+          too-few known r code (bytes_of signatures) (drop place (bytes_of keys)) used (omega (arith, many signatures)) (omega (arith, many signatures, many keys, length-drop place (bytes_of keys)))
           ∙ ap (λ b. Says (Some b)) (sym (ne_eqb used (length signatures) (λ e. omega arith)))
       by (inr h) =
-          none-left known q code (bytes_of signatures) (drop place (bytes_of keys)) used (omega (arith, many signatures))
+          none-left known r code (bytes_of signatures) (drop place (bytes_of keys)) used (omega (arith, many signatures))
           ∙ ap (λ b. Says (Some b)) (sym (eq-eqb used (length signatures) (omega arith)))
 
   pub used-up : length signatures ≤ used → left used place ≡ Says (Some true)
-  used-up h = none-left known q code (bytes_of signatures) (drop place (bytes_of keys)) used (omega (arith, many signatures))
+  used-up h = none-left known r code (bytes_of signatures) (drop place (bytes_of keys)) used (omega (arith, many signatures))
 
   pub few-left : used < length signatures → length keys - place < length signatures - used → left used place ≡ Says (Some false)
-  few-left h few = too-few known q code (bytes_of signatures) (drop place (bytes_of keys)) used (omega (arith, many signatures)) (omega (arith, many signatures, many keys, length-drop place (bytes_of keys)))
+  few-left h few = too-few known r code (bytes_of signatures) (drop place (bytes_of keys)) used (omega (arith, many signatures)) (omega (arith, many signatures, many keys, length-drop place (bytes_of keys)))
 
   module _ (signature key : Bytes) (turn : Turn signatures keys used place signature key) where
-    turned : left used place ≡ and_then onward (pair_verdict known q code signature key)
+    turned : left used place ≡ and_then onward (pair_verdict known r code signature key)
     turned =
-        next known q code (bytes_of signatures) (bytes_of keys) used place (omega (arith, turn.inside, many signatures)) (omega (arith, turn.below, many keys)) (omega (arith, turn.enough, many signatures, many keys))
-        ∙ ap (λ s. and_then onward (pair_verdict known q code s (nth (bytes_of keys) place))) turn.first ∙ ap (λ k. and_then onward (pair_verdict known q code signature k)) turn.tried
+        next known r code (bytes_of signatures) (bytes_of keys) used place (omega (arith, turn.inside, many signatures)) (omega (arith, turn.below, many keys)) (omega (arith, turn.enough, many signatures, many keys))
+        ∙ ap (λ s. and_then onward (pair_verdict known r code s (nth (bytes_of keys) place))) turn.first ∙ ap (λ k. and_then onward (pair_verdict known r code signature k)) turn.tried
 
-    pub unshaped : may_be_tried q.flags signature ≡ false → left used place ≡ Says None
-    unshaped shaped = turned ∙ ap (and_then onward) (pair-unshaped known q code signature key shaped)
+    pub unshaped : may_be_tried r.flags signature ≡ false → left used place ≡ Says None
+    unshaped shaped = turned ∙ ap (and_then onward) (pair-unshaped known r code signature key shaped)
 
-    pub empty : may_be_tried q.flags signature ≡ true → length signature ≡ 0 → left used place ≡ left used (place + 1)
-    empty shaped none = turned ∙ ap (and_then onward) (pair-empty known q code signature key shaped none)
+    pub empty : may_be_tried r.flags signature ≡ true → length signature ≡ 0 → left used place ≡ left used (place + 1)
+    empty shaped none = turned ∙ ap (and_then onward) (pair-empty known r code signature key shaped none)
 
-    module _ (digest : Bytes) (shaped : may_be_tried q.flags signature ≡ true) (some : 0 < length signature) (is : digest ≡ digest_of q.tx q.input code (type_of signature)) where
+    module _ (digest : Bytes) (shaped : may_be_tried r.flags signature ≡ true) (some : 0 < length signature) (is : digest ≡ digest_with r.value r.tx r.input code (type_of signature)) where
       abbrev asked : Answer Bool
       asked = verdict_or_wanted (known (triple_of key (signature_proper signature) digest)) (triple_of key (signature_proper signature) digest)
 
       judged : (a : Answer Bool) → asked ≡ a → left used place ≡ and_then onward (answer_map Some a)
-      judged a e = turned ∙ ap (and_then onward) (pair-asked known q code signature key digest shaped some is ∙ ap (answer_map Some) e)
+      judged a e = turned ∙ ap (and_then onward) (pair-asked known r code signature key digest shaped some is ∙ ap (answer_map Some) e)
 
       pub wanted : (t : Triple) → asked ≡ Wants t → left used place ≡ Wants t
       wanted t e = judged (Wants t) e
@@ -155,28 +154,28 @@ no-bytes flags signature none = rw none (or_true (not flags.dersig))
     or_true false = refl
 
 -- an empty signature is valid for no key
-tried-none : (known : Known) (q : Question) (code : List ℕ) (signature : Bytes) (others keys : List Bytes) → length signature ≡ 0 → pairs_verdict known q code (signature ∷ others) keys ≡ Says (Some false)
+tried-none : (known : Known) (r : Running) (code : List ℕ) (signature : Bytes) (others keys : List Bytes) → length signature ≡ 0 → pairs_verdict known r code (signature ∷ others) keys ≡ Says (Some false)
 unfolding pairs_verdict
-tried-none known q code signature others [] none = refl
-tried-none known q code signature others (key ∷ keys) none =
-    by (ltb (length keys) (length others)) (pair-empty known q code signature key (no-bytes q.flags signature none) none) (tried-none known q code signature others keys none)
+tried-none known r code signature others [] none = refl
+tried-none known r code signature others (key ∷ keys) none =
+    by (ltb (length keys) (length others)) (pair-empty known r code signature key (no-bytes r.flags signature none) none) (tried-none known r code signature others keys none)
   where
-    by : (few : Bool) → pair_verdict known q code signature key ≡ Says (Some false) → pairs_verdict known q code (signature ∷ others) keys ≡ Says (Some false)
-        → (if few then Says (Some false) else and_then (λ valid. if valid then pairs_verdict known q code others keys else pairs_verdict known q code (signature ∷ others) keys) (pair_verdict known q code signature key)) ≡ Says (Some false)
+    by : (few : Bool) → pair_verdict known r code signature key ≡ Says (Some false) → pairs_verdict known r code (signature ∷ others) keys ≡ Says (Some false)
+        → (if few then Says (Some false) else and_then (λ valid. if valid then pairs_verdict known r code others keys else pairs_verdict known r code (signature ∷ others) keys) (pair_verdict known r code signature key)) ≡ Says (Some false)
     by true e later = refl
     by false e later = rw e later
 
-pub answer-none : (known : Known) (q : Question) (code : List ℕ) (s : Stack) (counts : ℕ × ℕ) (slices : List (Bor (List ℕ))) → bytes_of slices ≡ signatures_in counts.0 counts.1 s → None ≡ slice_get slices 0
-    → multisig_answer known q code s counts ≡ Says (Some true)
+pub answer-none : (known : Known) (r : Running) (code : List ℕ) (s : Stack) (counts : ℕ × ℕ) (slices : List (Bor (List ℕ))) → bytes_of slices ≡ signatures_in counts.0 counts.1 s → None ≡ slice_get slices 0
+    → multisig_answer known r code s counts ≡ Says (Some true)
 unfolding pairs_verdict
-answer-none known q code s counts [] is none = rw (sym is) refl
-answer-none known q code s counts (slice ∷ slices) is none = cc
+answer-none known r code s counts [] is none = rw (sym is) refl
+answer-none known r code s counts (slice ∷ slices) is none = cc
 
-pub answer-empty : (known : Known) (q : Question) (code : List ℕ) (s : Stack) (counts : ℕ × ℕ) (first : Bor (List ℕ)) (slices : List (Bor (List ℕ))) → bytes_of slices ≡ signatures_in counts.0 counts.1 s → Some first ≡ slice_get slices 0 → length first.now ≡ 0
-    → multisig_answer known q code s counts ≡ Says (Some false)
-answer-empty known q code s counts first [] is there none = cc
-answer-empty known q code s counts first (slice ∷ slices) is there none =
+pub answer-empty : (known : Known) (r : Running) (code : List ℕ) (s : Stack) (counts : ℕ × ℕ) (first : Bor (List ℕ)) (slices : List (Bor (List ℕ))) → bytes_of slices ≡ signatures_in counts.0 counts.1 s → Some first ≡ slice_get slices 0 → length first.now ≡ 0
+    → multisig_answer known r code s counts ≡ Says (Some false)
+answer-empty known r code s counts first [] is there none = cc
+answer-empty known r code s counts first (slice ∷ slices) is there none =
     let same : first ≡ slice = cc in
     let no_bytes : length slice.now ≡ 0 = ap (λ (x : Bor (List ℕ)). length x.now) (sym same) ∙ none in
-    ap (λ ss. pairs_verdict known q (signed_code code ss) ss (keys_in counts.0 s)) (sym is)
-    ∙ tried-none known q (signed_code code (bytes_of (slice ∷ slices))) slice.now (bytes_of slices) (keys_in counts.0 s) no_bytes
+    ap (λ ss. pairs_verdict known r (code_with r.value code ss) ss (keys_in counts.0 s)) (sym is)
+    ∙ tried-none known r (code_with r.value code (bytes_of (slice ∷ slices))) slice.now (bytes_of slices) (keys_in counts.0 s) no_bytes

@@ -9,6 +9,7 @@ pub mod Effects
 pub mod Row
 pub mod Failures
 pub mod Rules
+pub mod Running
 pub mod Question
 pub mod Answer
 pub mod inside

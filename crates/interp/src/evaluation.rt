@@ -3,13 +3,16 @@
 ghost use Rattle.std.specs.Prelude.{◌<◌, length};
 ghost use Rattle.interp.specs.Answer.{Tells};
 ghost use Rattle.interp.specs.Question.{question_of};
+ghost use Rattle.interp.specs.Running.{base, running_of};
 ghost use Rattle.interp.specs.computed.NamedFailures.{eval_script, eval_to_true, inner_named, on_left, verify_with_script, verify_script};
 
+use crate::base::base;
 use crate::element::Element;
 use crate::execution::Execution;
 use crate::job::Job;
 use crate::no_verdict::Unverified;
 use crate::pile::Pile;
+use crate::running::Running;
 use crate::script_error::ScriptError;
 use crate::verification::first_op;
 use script::{MAX_SCRIPT_SIZE, is_p2sh, push_only};
@@ -28,7 +31,22 @@ pub fn eval_script<K: KnowsSignatures>(
     // The input is one of the transaction's.
     requires { job.now.input < length job.now.tx.now.inputs }
     ensures { Tells result
-        (eval_script (K.known known.now) (question_of job.now) script.now stack) }
+        (eval_script (K.known known.now) (base (question_of job.now)) script.now stack) }
+{
+    run_or_name(alloc, &base(job), known, script, stack)
+}
+
+/// The same, of what it runs for.
+fn run_or_name<K: KnowsSignatures>(
+    alloc: Global,
+    running: &Running,
+    known: &K,
+    script: &[u8],
+    stack: Pile<Element>,
+) -> Result<Result<Pile<Element>, ScriptError>, Unverified>
+    requires { running.now.input < length running.now.tx.now.inputs }
+    ensures { Tells result
+        (eval_script (K.known known.now) (running_of running.now) script.now stack) }
 {
     if script.len() > MAX_SCRIPT_SIZE {
         return Ok(Err(ScriptError::ScriptSize));
@@ -36,7 +54,7 @@ pub fn eval_script<K: KnowsSignatures>(
     let mut execution = Execution::new(alloc, script, stack);
     let mut ahead = script;
     while let Some((op, after)) = first_op(ahead) {
-        if let Some(name) = execution.step_or_name(alloc, job, known, after, op)? {
+        if let Some(name) = execution.step_or_name(alloc, running, known, after, op)? {
             return Ok(Err(name));
         }
         ahead = after;
@@ -54,16 +72,16 @@ pub fn eval_script<K: KnowsSignatures>(
 #[tactic(auto, unfolding(crate::specs::computed::NamedFailures::eval_to_true))]
 fn eval_to_true<K: KnowsSignatures>(
     alloc: Global,
-    job: &Job,
+    running: &Running,
     known: &K,
     script: &[u8],
     stack: Pile<Element>,
 ) -> Result<Result<(), ScriptError>, Unverified>
-    requires { job.now.input < length job.now.tx.now.inputs }
+    requires { running.now.input < length running.now.tx.now.inputs }
     ensures { Tells result
-        (eval_to_true (K.known known.now) (question_of job.now) script.now stack) }
+        (eval_to_true (K.known known.now) (running_of running.now) script.now stack) }
 {
-    let end = match eval_script(alloc, job, known, script, stack)? {
+    let end = match run_or_name(alloc, running, known, script, stack)? {
         Err(name) => return Ok(Err(name)),
         Ok(end) => end,
     };
@@ -93,7 +111,7 @@ fn eval_inner<K: KnowsSignatures>(
     }
     let mut left = left;
     let inner = left.pop();
-    eval_to_true(alloc, job, known, inner.as_slice(), left)
+    eval_to_true(alloc, &base(job), known, inner.as_slice(), left)
 }
 
 /// Runs what is spent on the stack that the input script left.
@@ -109,10 +127,10 @@ fn eval_on<K: KnowsSignatures>(
     ensures { Tells result (on_left (K.known known.now) (question_of job.now) script.now left) }
 {
     if !job.flags.p2sh || !is_p2sh(job.spent) {
-        return eval_to_true(alloc, job, known, job.spent, left);
+        return eval_to_true(alloc, &base(job), known, job.spent, left);
     }
     let same = left.copy(alloc)?;
-    if let Err(name) = eval_to_true(alloc, job, known, job.spent, same)? {
+    if let Err(name) = eval_to_true(alloc, &base(job), known, job.spent, same)? {
         return Ok(Err(name));
     }
     eval_inner(alloc, job, known, script, left)

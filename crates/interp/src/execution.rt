@@ -6,7 +6,8 @@ ghost use Rattle.signatures.specs.Known.{Known};
 ghost use Rattle.interp.specs.Answer.{answer_map};
 ghost use Rattle.interp.specs.inside.Outcomes.{Goes, Leaves, GoesNamed, LeavesNamed};
 ghost use Rattle.interp.specs.inside.Multisig.{counts_of};
-ghost use Rattle.interp.specs.Question.{Question, question_of};
+ghost use Rattle.interp.specs.Running as model;
+ghost use Rattle.interp.specs.Running.{running_of};
 ghost use Rattle.interp.specs.inside.Outcomes.{Gives};
 ghost use Rattle.interp.specs.State.{start, is_executing};
 ghost use Rattle.interp.specs.Timelocks.{locks_until, locks_for};
@@ -23,12 +24,12 @@ use crate::changes::{apply, compare, push, verify};
 use crate::conditions::Conditions;
 use crate::element::Element;
 use crate::failures::{name_at, verify_name};
-use crate::job::Job;
 use crate::multisig::{answer, many};
 use crate::no_verdict::Unverified;
 use crate::numbers::{Binary, join_numbers};
 use crate::op::{Op, Test, op_of};
 use crate::pile::Pile;
+use crate::running::Running;
 use crate::script_error::ScriptError;
 use crate::signature_check::judge;
 use crate::timelocks::{meets_lock_time, meets_sequence};
@@ -201,19 +202,19 @@ impl<'a> Execution<'a> {
     fn check_sig<K: KnowsSignatures>(
         &mut self,
         alloc: Global,
-        job: &Job,
+        running: &Running,
         known: &K,
     ) -> Result<bool, Unverified>
-        requires { job.now.input < length job.now.tx.now.inputs }
+        requires { running.now.input < length running.now.tx.now.inputs }
         ensures { Goes result
-            (after_test (K.known known.now) (question_of job.now) Sig self.old) self.new }
+            (after_test (K.known known.now) (running_of running.now) Sig self.old) self.new }
     {
         if self.main.len() < 2 {
             return Ok(false);
         }
         let key = self.main.at(0).as_slice();
         let signature = self.main.at(1).as_slice();
-        row!(alloc, self; 2 => judge(alloc, job, known, self.code, signature, key)?)
+        row!(alloc, self; 2 => judge(alloc, running, known, self.code, signature, key)?)
     }
 
     /// CHECKMULTISIG: takes its keys, its signatures and one element more, and pushes its answer.
@@ -221,25 +222,25 @@ impl<'a> Execution<'a> {
     fn check_multisig<K: KnowsSignatures>(
         &mut self,
         alloc: Global,
-        job: &Job,
+        running: &Running,
         known: &K,
     ) -> Result<bool, Unverified>
-        requires { job.now.input < length job.now.tx.now.inputs }
+        requires { running.now.input < length running.now.tx.now.inputs }
         ensures { Goes result
-            (after_multisig (K.known known.now) (question_of job.now) self.old) self.new }
+            (after_multisig (K.known known.now) (running_of running.now) self.old) self.new }
     {
         let Some(counts) = self.counts() else {
             return Ok(false);
         };
         self.count += counts.0;
-        row!(alloc, self; counts.0 + counts.1 + 3 => answer(alloc, job, known, self.code, &self.main, counts)?)
+        row!(alloc, self; counts.0 + counts.1 + 3 => answer(alloc, running, known, self.code, &self.main, counts)?)
     }
 
     /// Whether the element more that CHECKMULTISIG takes is empty, where it has to be (BIP 147).
-    fn may_take_dummy(&self, job: &Job) -> bool
-        ensures { result ≡ may_be_dummy job.now.flags (dummy_of self.now) }
+    fn may_take_dummy(&self, running: &Running) -> bool
+        ensures { result ≡ may_be_dummy running.now.flags (dummy_of self.now) }
     {
-        if !job.flags.nulldummy {
+        if !running.flags.nulldummy {
             return true;
         }
         match self.counts() {
@@ -256,49 +257,49 @@ impl<'a> Execution<'a> {
     fn check_multisig_and_dummy<K: KnowsSignatures>(
         &mut self,
         alloc: Global,
-        job: &Job,
+        running: &Running,
         known: &K,
     ) -> Result<bool, Unverified>
-        requires { job.now.input < length job.now.tx.now.inputs }
+        requires { running.now.input < length running.now.tx.now.inputs }
         ensures { Goes result
-            (after_test (K.known known.now) (question_of job.now) Multisig self.old) self.new }
+            (after_test (K.known known.now) (running_of running.now) Multisig self.old) self.new }
     {
-        let may_take = self.may_take_dummy(job);
-        Ok(self.check_multisig(alloc, job, known)? && may_take)
+        let may_take = self.may_take_dummy(running);
+        Ok(self.check_multisig(alloc, running, known)? && may_take)
     }
 
     /// What leaves a truth or a number.
     fn test<K: KnowsSignatures>(
         &mut self,
         alloc: Global,
-        job: &Job,
+        running: &Running,
         known: &K,
         by: Test,
     ) -> Result<bool, Unverified>
-        requires { job.now.input < length job.now.tx.now.inputs }
+        requires { running.now.input < length running.now.tx.now.inputs }
         ensures { Goes result
-            (after_test (K.known known.now) (question_of job.now) (check_of by) self.old) self.new }
+            (after_test (K.known known.now) (running_of running.now) (check_of by) self.old) self.new }
     {
         match by {
             Test::Equal => Ok(compare(alloc, &mut self.main)?),
             Test::NumEqual => Ok(join_numbers(alloc, &mut self.main, Binary::NumEqual)?),
-            Test::CheckSig => self.check_sig(alloc, job, known),
-            Test::CheckMultisig => self.check_multisig_and_dummy(alloc, job, known),
+            Test::CheckSig => self.check_sig(alloc, running, known),
+            Test::CheckMultisig => self.check_multisig_and_dummy(alloc, running, known),
         }
     }
 
     fn test_verify<K: KnowsSignatures>(
         &mut self,
         alloc: Global,
-        job: &Job,
+        running: &Running,
         known: &K,
         by: Test,
     ) -> Result<bool, Unverified>
-        requires { job.now.input < length job.now.tx.now.inputs }
+        requires { running.now.input < length running.now.tx.now.inputs }
         ensures { Goes result (answer_map (option_and_then (on_main verify))
-            (after_test (K.known known.now) (question_of job.now) (check_of by) self.old)) self.new }
+            (after_test (K.known known.now) (running_of running.now) (check_of by) self.old)) self.new }
     {
-        if !self.test(alloc, job, known, by)? {
+        if !self.test(alloc, running, known, by)? {
             return Ok(false);
         }
         Ok(self.verify())
@@ -306,43 +307,43 @@ impl<'a> Execution<'a> {
 
     /// Whether the top is there and a lock time that the transaction keeps (BIP 65).
     #[tactic(auto, unfolding(crate::specs::Effects::ask))]
-    fn ask_lock_time(&self, job: &Job) -> bool
-        requires { job.now.input < length job.now.tx.now.inputs }
+    fn ask_lock_time(&self, running: &Running) -> bool
+        requires { running.now.input < length running.now.tx.now.inputs }
         ensures { Gives result (ask
-            (λ n. locks_until job.now.tx.now job.now.input n) self.now) self.now }
+            (λ n. locks_until running.now.tx.now running.now.input n) self.now) self.now }
     {
-        self.main.len() > 0 && meets_lock_time(job, self.main.at(0).as_slice())
+        self.main.len() > 0 && meets_lock_time(running, self.main.at(0).as_slice())
     }
 
     /// Whether the top is there and a relative lock that the input keeps (BIP 112).
     #[tactic(auto, unfolding(crate::specs::Effects::ask))]
-    fn ask_sequence(&self, job: &Job) -> bool
-        requires { job.now.input < length job.now.tx.now.inputs }
+    fn ask_sequence(&self, running: &Running) -> bool
+        requires { running.now.input < length running.now.tx.now.inputs }
         ensures { Gives result (ask
-            (λ n. locks_for job.now.tx.now job.now.input n) self.now) self.now }
+            (λ n. locks_for running.now.tx.now running.now.input n) self.now) self.now }
     {
-        self.main.len() > 0 && meets_sequence(job, self.main.at(0).as_slice())
+        self.main.len() > 0 && meets_sequence(running, self.main.at(0).as_slice())
     }
 
     /// An opcode that is executed; `after` follows it in the script.
     fn execute<K: KnowsSignatures>(
         &mut self,
         alloc: Global,
-        job: &Job,
+        running: &Running,
         known: &K,
         after: &'a [u8],
         op: Op,
     ) -> Result<bool, Unverified>
-        requires { job.now.input < length job.now.tx.now.inputs }
-        ensures { Goes result (after_executing (K.known known.now) (question_of job.now)
+        requires { running.now.input < length running.now.tx.now.inputs }
+        ensures { Goes result (after_executing (K.known known.now) (running_of running.now)
             after.now (meaning op) self.old) self.new }
     {
         match op {
             Op::Disabled | Op::Fails => Ok(false),
             Op::Nothing => Ok(true),
             Op::Change(by) => Ok(apply(alloc, &mut self.main, by)?),
-            Op::Test(by) => self.test(alloc, job, known, by),
-            Op::TestVerify(by) => self.test_verify(alloc, job, known, by),
+            Op::Test(by) => self.test(alloc, running, known, by),
+            Op::TestVerify(by) => self.test_verify(alloc, running, known, by),
             Op::If => Ok(self.open(true)?),
             Op::NotIf => Ok(self.open(false)?),
             Op::Else => Ok(self.turn()?),
@@ -353,8 +354,8 @@ impl<'a> Execution<'a> {
                 self.code = after;
                 Ok(true)
             }
-            Op::LockTime => Ok(!job.flags.cltv || self.ask_lock_time(job)),
-            Op::Sequence => Ok(!job.flags.csv || self.ask_sequence(job)),
+            Op::LockTime => Ok(!running.flags.cltv || self.ask_lock_time(running)),
+            Op::Sequence => Ok(!running.flags.csv || self.ask_sequence(running)),
         }
     }
 
@@ -395,17 +396,17 @@ impl<'a> Execution<'a> {
     fn act<K: KnowsSignatures>(
         &mut self,
         alloc: Global,
-        job: &Job,
+        running: &Running,
         known: &K,
         after: &'a [u8],
         number: u8,
     ) -> Result<bool, Unverified>
-        requires { job.now.input < length job.now.tx.now.inputs }
-        ensures { Goes result (after_acting (K.known known.now) (question_of job.now)
+        requires { running.now.input < length running.now.tx.now.inputs }
+        ensures { Goes result (after_acting (K.known known.now) (running_of running.now)
             after.now (row_at number) self.old) self.new }
     {
         if self.is_executing() {
-            self.execute(alloc, job, known, after, op_of(number))
+            self.execute(alloc, running, known, after, op_of(number))
         } else {
             Ok(self.skip(number)?)
         }
@@ -415,8 +416,8 @@ impl<'a> Execution<'a> {
     #[tactic(auto, unfolding(crate::specs::computed::Step::after_acting, crate::specs::Row::push_row))]
     #[inline(always)]
     fn act_push(&mut self, alloc: Global, bytes: &[u8]) -> Result<bool, Memory>
-        ensures { IfOk result (λ done. (known : Known) (q : Question) (after : List ℕ)
-            → Leaves done (after_acting known q after (push_row bytes.now) self.old) self.new) }
+        ensures { IfOk result (λ done. (known : Known) (r : model.Running) (after : List ℕ)
+            → Leaves done (after_acting known r after (push_row bytes.now) self.old) self.new) }
     {
         if bytes.len() > MAX_PUSH {
             return Ok(false);
@@ -457,14 +458,14 @@ impl<'a> Execution<'a> {
     pub fn step<K: KnowsSignatures>(
         &mut self,
         alloc: Global,
-        job: &Job,
+        running: &Running,
         known: &K,
         after: &'a [u8],
         op: &[u8],
     ) -> Result<bool, Unverified>
-        requires { job.now.input < length job.now.tx.now.inputs }
+        requires { running.now.input < length running.now.tx.now.inputs }
         ensures { Goes result
-            (step (K.known known.now) (question_of job.now) after.now op.now self.old) self.new }
+            (step (K.known known.now) (running_of running.now) after.now op.now self.old) self.new }
     {
         let Some(number) = op.first() else {
             return Ok(false);
@@ -476,7 +477,7 @@ impl<'a> Execution<'a> {
         if !self.count_one(number) {
             return Ok(false);
         }
-        Ok(self.act(alloc, job, known, after, number)? && self.is_bounded())
+        Ok(self.act(alloc, running, known, after, number)? && self.is_bounded())
     }
 
     /// CHECKMULTISIG, and why it fails where it does.
@@ -484,17 +485,17 @@ impl<'a> Execution<'a> {
     fn multisig_or_name<K: KnowsSignatures>(
         &mut self,
         alloc: Global,
-        job: &Job,
+        running: &Running,
         known: &K,
         number: u8,
     ) -> Result<Option<ScriptError>, Unverified>
-        requires { job.now.input < length job.now.tx.now.inputs }
-        ensures { GoesNamed result (tested (K.known known.now) (question_of job.now)
+        requires { running.now.input < length running.now.tx.now.inputs }
+        ensures { GoesNamed result (tested (K.known known.now) (running_of running.now)
             number Multisig self.old) self.new }
     {
         let name = name_at(number, &self.main, self.count);
-        let may_take = self.may_take_dummy(job);
-        if !self.check_multisig(alloc, job, known)? {
+        let may_take = self.may_take_dummy(running);
+        if !self.check_multisig(alloc, running, known)? {
             return Ok(Some(name));
         }
         if !may_take {
@@ -507,20 +508,20 @@ impl<'a> Execution<'a> {
     fn test_or_name<K: KnowsSignatures>(
         &mut self,
         alloc: Global,
-        job: &Job,
+        running: &Running,
         known: &K,
         by: Test,
         number: u8,
     ) -> Result<Option<ScriptError>, Unverified>
-        requires { job.now.input < length job.now.tx.now.inputs }
-        ensures { GoesNamed result (tested (K.known known.now) (question_of job.now)
+        requires { running.now.input < length running.now.tx.now.inputs }
+        ensures { GoesNamed result (tested (K.known known.now) (running_of running.now)
             number (check_of by) self.old) self.new }
     {
         if let Test::CheckMultisig = by {
-            return self.multisig_or_name(alloc, job, known, number);
+            return self.multisig_or_name(alloc, running, known, number);
         }
         let name = name_at(number, &self.main, self.count);
-        if !self.test(alloc, job, known, by)? {
+        if !self.test(alloc, running, known, by)? {
             return Ok(Some(name));
         }
         Ok(None)
@@ -530,16 +531,16 @@ impl<'a> Execution<'a> {
     fn verify_or_name<K: KnowsSignatures>(
         &mut self,
         alloc: Global,
-        job: &Job,
+        running: &Running,
         known: &K,
         by: Test,
         number: u8,
     ) -> Result<Option<ScriptError>, Unverified>
-        requires { job.now.input < length job.now.tx.now.inputs }
+        requires { running.now.input < length running.now.tx.now.inputs }
         ensures { (after : List ℕ) → GoesNamed result (executed (K.known known.now)
-            (question_of job.now) after number (AndVerifies (check_of by)) self.old) self.new }
+            (running_of running.now) after number (AndVerifies (check_of by)) self.old) self.new }
     {
-        if let Some(name) = self.test_or_name(alloc, job, known, by, number)? {
+        if let Some(name) = self.test_or_name(alloc, running, known, by, number)? {
             return Ok(Some(name));
         }
         if !self.verify() {
@@ -552,24 +553,24 @@ impl<'a> Execution<'a> {
     fn execute_or_name<K: KnowsSignatures>(
         &mut self,
         alloc: Global,
-        job: &Job,
+        running: &Running,
         known: &K,
         after: &'a [u8],
         number: u8,
     ) -> Result<Option<ScriptError>, Unverified>
-        requires { job.now.input < length job.now.tx.now.inputs }
-        ensures { GoesNamed result (executed (K.known known.now) (question_of job.now)
+        requires { running.now.input < length running.now.tx.now.inputs }
+        ensures { GoesNamed result (executed (K.known known.now) (running_of running.now)
             after.now number (row_at number) self.old) self.new }
     {
         let op = op_of(number);
         if let Op::Test(by) = op {
-            return self.test_or_name(alloc, job, known, by, number);
+            return self.test_or_name(alloc, running, known, by, number);
         }
         if let Op::TestVerify(by) = op {
-            return self.verify_or_name(alloc, job, known, by, number);
+            return self.verify_or_name(alloc, running, known, by, number);
         }
         let name = name_at(number, &self.main, self.count);
-        if !self.execute(alloc, job, known, after, op)? {
+        if !self.execute(alloc, running, known, after, op)? {
             return Ok(Some(name));
         }
         Ok(None)
@@ -580,17 +581,17 @@ impl<'a> Execution<'a> {
     fn act_or_name<K: KnowsSignatures>(
         &mut self,
         alloc: Global,
-        job: &Job,
+        running: &Running,
         known: &K,
         after: &'a [u8],
         number: u8,
     ) -> Result<Option<ScriptError>, Unverified>
-        requires { job.now.input < length job.now.tx.now.inputs }
-        ensures { GoesNamed result (acted (K.known known.now) (question_of job.now)
+        requires { running.now.input < length running.now.tx.now.inputs }
+        ensures { GoesNamed result (acted (K.known known.now) (running_of running.now)
             after.now number (row_at number) self.old) self.new }
     {
         if self.is_executing() {
-            return self.execute_or_name(alloc, job, known, after, number);
+            return self.execute_or_name(alloc, running, known, after, number);
         }
         let name = name_at(number, &self.main, self.count);
         if !self.skip(number)? {
@@ -607,8 +608,8 @@ impl<'a> Execution<'a> {
         bytes: &[u8],
     ) -> Result<Option<ScriptError>, Memory>
         requires { number ≤ 0x4e }
-        ensures { IfOk result (λ failure. (known : Known) (q : Question) (after : List ℕ)
-            → LeavesNamed failure (acted known q after number (push_row bytes.now) self.old)
+        ensures { IfOk result (λ failure. (known : Known) (r : model.Running) (after : List ℕ)
+            → LeavesNamed failure (acted known r after number (push_row bytes.now) self.old)
             self.new) }
     {
         if !self.act_push(alloc, bytes)? {
@@ -622,21 +623,21 @@ impl<'a> Execution<'a> {
     fn row_or_name<K: KnowsSignatures>(
         &mut self,
         alloc: Global,
-        job: &Job,
+        running: &Running,
         known: &K,
         after: &'a [u8],
         op: &[u8],
     ) -> Result<Option<ScriptError>, Unverified>
-        requires input { job.now.input < length job.now.tx.now.inputs }
+        requires input { running.now.input < length running.now.tx.now.inputs }
         requires some { 0 < length op.now }
-        ensures { GoesNamed result (acted (K.known known.now) (question_of job.now)
+        ensures { GoesNamed result (acted (K.known known.now) (running_of running.now)
             after.now (number_of op.now) (row_of op.now) self.old) self.new }
     {
         let number = op[0];
         if number <= OP_PUSHDATA4 {
             return Ok(self.push_or_name(alloc, number, pushed(op))?);
         }
-        self.act_or_name(alloc, job, known, after, number)
+        self.act_or_name(alloc, running, known, after, number)
     }
 
     /// One opcode with its bytes, and why it fails where it does; `after` follows it in the script.
@@ -644,13 +645,13 @@ impl<'a> Execution<'a> {
     pub fn step_or_name<K: KnowsSignatures>(
         &mut self,
         alloc: Global,
-        job: &Job,
+        running: &Running,
         known: &K,
         after: &'a [u8],
         op: &[u8],
     ) -> Result<Option<ScriptError>, Unverified>
-        requires { job.now.input < length job.now.tx.now.inputs }
-        ensures { GoesNamed result (step_named (K.known known.now) (question_of job.now)
+        requires { running.now.input < length running.now.tx.now.inputs }
+        ensures { GoesNamed result (step_named (K.known known.now) (running_of running.now)
             after.now op.now self.old) self.new }
     {
         if op.is_empty() {
@@ -659,7 +660,7 @@ impl<'a> Execution<'a> {
         if !self.count_one(op[0]) {
             return Ok(Some(ScriptError::OpCount));
         }
-        if let Some(name) = self.row_or_name(alloc, job, known, after, op)? {
+        if let Some(name) = self.row_or_name(alloc, running, known, after, op)? {
             return Ok(Some(name));
         }
         if !self.is_bounded() {

@@ -1,6 +1,7 @@
 //! The script interpreter: whether an input may spend what it names.
 #![tactic(auto)]
 
+mod base;
 mod changes;
 mod conditions;
 mod element;
@@ -18,6 +19,7 @@ mod numbers;
 mod op;
 mod pile;
 mod places;
+mod running;
 mod script_error;
 mod signature_check;
 mod timelocks;

@@ -4,17 +4,16 @@ ghost use Rattle.std.specs.Prelude.{◌≡◌, ◌+◌, ◌-◌, ◌<◌, ◌≤
 ghost use Rattle.std.specs.List.{concat};
 ghost use Rattle.script.specs.Removal.{bytes_of};
 ghost use Rattle.interp.specs.Answer.{Tells};
-ghost use Rattle.sighash.specs.Digest.{digest_of};
-ghost use Rattle.interp.specs.Question.{question_of};
+ghost use Rattle.interp.specs.Running.{digest_with, value_of, running_of};
 ghost use Rattle.interp.specs.Signatures.{type_of};
 ghost use Rattle.interp.specs.computed.Signatures.{pairs_verdict};
 ghost use Rattle.interp.specs.inside.Multisig.{many, multisig_answer};
 
 use crate::element::{Element, natural};
-use crate::job::Job;
 use crate::no_verdict::Unverified;
 use crate::pile::Pile;
-use crate::signature_check::{digest_for, is_valid, may_be_tried, signed_parts};
+use crate::running::Running;
+use crate::signature_check::{code_parts, digest_for, is_valid, may_be_tried};
 use signatures::KnowsSignatures;
 use std::alloc::Global;
 use wire::Memory;
@@ -55,34 +54,34 @@ fn slices(
 
 /// What a signature signs, which may be in hand already.
 fn known_or_worked_out(
-    job: &Job,
+    running: &Running,
     code: &[&[u8]],
     signature: &[u8],
     in_hand: Option<[u8; 32]>,
 ) -> [u8; 32]
-    requires input { job.now.input < length job.now.tx.now.inputs }
-    requires right { IfSome in_hand (λ digest. digest ≡ digest_of job.now.tx.now job.now.input
-        (concat (bytes_of code.now)) (type_of signature.now)) }
-    ensures { result ≡ digest_of job.now.tx.now job.now.input (concat (bytes_of code.now))
-        (type_of signature.now) }
+    requires input { running.now.input < length running.now.tx.now.inputs }
+    requires right { IfSome in_hand (λ digest. digest ≡ digest_with (value_of running.now)
+        running.now.tx.now running.now.input (concat (bytes_of code.now)) (type_of signature.now)) }
+    ensures { result ≡ digest_with (value_of running.now) running.now.tx.now running.now.input
+        (concat (bytes_of code.now)) (type_of signature.now) }
 {
     match in_hand {
         Some(digest) => digest,
-        None => digest_for(job, code, signature),
+        None => digest_for(running, code, signature),
     }
 }
 
 /// Tries signatures and keys from the top down: None where one that is tried may not be.
 fn try_pairs<K: KnowsSignatures>(
     alloc: Global,
-    job: &Job,
+    running: &Running,
     known: &K,
     code: &[&[u8]],
     signatures: &[&[u8]],
     keys: &[&[u8]],
 ) -> Result<Option<bool>, Unverified>
-    requires { job.now.input < length job.now.tx.now.inputs }
-    ensures { Tells result (pairs_verdict (K.known known.now) (question_of job.now)
+    requires { running.now.input < length running.now.tx.now.inputs }
+    ensures { Tells result (pairs_verdict (K.known known.now) (running_of running.now)
         (concat (bytes_of code.now)) (bytes_of signatures.now) (bytes_of keys.now)) }
 {
     let mut used = 0;
@@ -95,11 +94,11 @@ fn try_pairs<K: KnowsSignatures>(
         if keys.len() - place < signatures.len() - used {
             return Ok(Some(false));
         }
-        if !may_be_tried(job.flags, signature) {
+        if !may_be_tried(running.flags, signature) {
             return Ok(None);
         }
         if !signature.is_empty() {
-            let digest = known_or_worked_out(job, code, signature, signed);
+            let digest = known_or_worked_out(running, code, signature, signed);
             let valid = is_valid(alloc, known, &digest, signature, keys[place])?;
             signed = if valid { None } else { Some(digest) };
             used += usize::from(valid);
@@ -111,17 +110,17 @@ fn try_pairs<K: KnowsSignatures>(
 /// What CHECKMULTISIG answers, with so many keys and signatures on the stack.
 pub fn answer<K: KnowsSignatures>(
     alloc: Global,
-    job: &Job,
+    running: &Running,
     known: &K,
     code: &[u8],
     stack: &Pile<Element>,
     counts: (usize, usize),
 ) -> Result<Option<bool>, Unverified>
-    requires input { job.now.input < length job.now.tx.now.inputs }
+    requires input { running.now.input < length running.now.tx.now.inputs }
     requires few { counts.0 ≤ 20 }
     requires no_more { counts.1 ≤ counts.0 }
     requires there { counts.0 + counts.1 + 3 ≤ length stack.now }
-    ensures { Tells result (multisig_answer (K.known known.now) (question_of job.now) code.now stack.now counts) }
+    ensures { Tells result (multisig_answer (K.known known.now) (running_of running.now) code.now stack.now counts) }
 {
     let (keys, signatures) = counts;
     let middle = keys + 2;
@@ -133,10 +132,10 @@ pub fn answer<K: KnowsSignatures>(
     if first.is_empty() {
         return Ok(Some(false));
     }
-    let parts = signed_parts(alloc, code, signatures.as_slice())?;
+    let parts = code_parts(alloc, running, code, signatures.as_slice())?;
     try_pairs(
         alloc,
-        job,
+        running,
         known,
         parts.as_slice(),
         signatures.as_slice(),

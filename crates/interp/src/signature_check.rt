@@ -3,17 +3,16 @@
 ghost use Rattle.std.specs.Prelude.{◌≡◌, ◌<◌, [], ◌∷◌, length, map, IfOk};
 ghost use Rattle.std.specs.List.{concat};
 ghost use Rattle.script.specs.Removal.{bytes_of};
-ghost use Rattle.sighash.specs.Digest.{digest_of};
 ghost use Rattle.signatures.specs.Triple.{triple_of};
 ghost use Rattle.interp.specs.Answer.{Tells};
-ghost use Rattle.interp.specs.Question.{question_of};
+ghost use Rattle.interp.specs.Running.{digest_with, code_with, value_of, running_of};
 ghost use Rattle.interp.specs.Signatures.{push_of, pieces_of, signed_code, type_of, signature_proper};
 ghost use Rattle.interp.specs.computed.Signatures.{may_be_tried, verdict_or_wanted, pair_verdict};
 
 use crate::element::Element;
 use crate::flags::Flags;
-use crate::job::Job;
 use crate::no_verdict::Unverified;
+use crate::running::Running;
 use script::opcode::{OP_CODESEPARATOR, OP_PUSHDATA1, OP_PUSHDATA2, OP_PUSHDATA4};
 use script::without;
 use signatures::{KeptTriple, KnowsSignatures, der_shape};
@@ -65,7 +64,7 @@ fn slices_of(alloc: Global, elements: &[Element]) -> Result<Vec<&[u8]>, Memory>
 }
 
 /// The parts of a code that are signed: all but the signatures' pushes and CODESEPARATORs.
-pub fn signed_parts<'a>(
+fn signed_parts<'a>(
     alloc: Global,
     code: &'a [u8],
     signatures: &[&[u8]],
@@ -79,19 +78,40 @@ pub fn signed_parts<'a>(
     without(alloc, code, pieces.as_slice())
 }
 
+/// The same of a running script. BIP 143 takes nothing out of the code.
+pub fn code_parts<'a>(
+    alloc: Global,
+    running: &Running,
+    code: &'a [u8],
+    signatures: &[&[u8]],
+) -> Result<Vec<&'a [u8]>, Memory>
+    ensures { IfOk result (λ parts. concat (bytes_of parts.items)
+        ≡ code_with (value_of running.now) code.now (bytes_of signatures.now)) }
+{
+    if running.witness.is_none() {
+        return signed_parts(alloc, code, signatures);
+    }
+    let mut whole = Vec::new(alloc);
+    whole.push(code)?;
+    Ok(whole)
+}
+
 /// What a signature signs: its last byte is its type.
-pub fn digest_for(job: &Job, code: &[&[u8]], signature: &[u8]) -> [u8; 32]
-    requires { job.now.input < length job.now.tx.now.inputs }
-    ensures { result ≡ digest_of job.now.tx.now job.now.input (concat (bytes_of code.now))
-        (type_of signature.now) }
+pub fn digest_for(running: &Running, code: &[&[u8]], signature: &[u8]) -> [u8; 32]
+    requires { running.now.input < length running.now.tx.now.inputs }
+    ensures { result ≡ digest_with (value_of running.now) running.now.tx.now running.now.input
+        (concat (bytes_of code.now)) (type_of signature.now) }
 {
     let kind = match signature.last() {
         Some(kind) => u32::from(*kind),
         None => 0,
     };
-    match job.midstates {
-        Some(midstates) => midstates.digest(job.input, code, kind),
-        None => sighash::digest(job.tx, job.input, code, kind),
+    if let Some((hashes, value)) = running.witness {
+        return hashes.digest(running.input, code, value, kind);
+    }
+    match running.midstates {
+        Some(midstates) => midstates.digest(running.input, code, kind),
+        None => sighash::digest(running.tx, running.input, code, kind),
     }
 }
 
@@ -129,23 +149,24 @@ pub fn may_be_tried(flags: Flags, signature: &[u8]) -> bool
 #[tactic(auto, unfolding(crate::specs::computed::Signatures::pair_verdict))]
 pub fn judge<K: KnowsSignatures>(
     alloc: Global,
-    job: &Job,
+    running: &Running,
     known: &K,
     code: &[u8],
     signature: &[u8],
     key: &[u8],
 ) -> Result<Option<bool>, Unverified>
-    requires { job.now.input < length job.now.tx.now.inputs }
-    ensures { Tells result (pair_verdict (K.known known.now) (question_of job.now)
-        (signed_code code.now (signature.now ∷ [])) signature.now key.now) }
+    requires { running.now.input < length running.now.tx.now.inputs }
+    ensures { Tells result (pair_verdict (K.known known.now) (running_of running.now)
+        (code_with (value_of running.now) code.now (signature.now ∷ []))
+        signature.now key.now) }
 {
-    if !may_be_tried(job.flags, signature) {
+    if !may_be_tried(running.flags, signature) {
         return Ok(None);
     }
     if signature.is_empty() {
         return Ok(Some(false));
     }
-    let parts = signed_parts(alloc, code, &[signature])?;
-    let digest = digest_for(job, parts.as_slice(), signature);
+    let parts = code_parts(alloc, running, code, &[signature])?;
+    let digest = digest_for(running, parts.as_slice(), signature);
     Ok(Some(is_valid(alloc, known, &digest, signature, key)?))
 }

@@ -5,13 +5,16 @@ ghost use Rattle.script.specs.Ops.{ops, rest};
 ghost use Rattle.interp.specs.Answer.{Tells};
 ghost use Rattle.interp.specs.Question.{question_of};
 ghost use Rattle.interp.specs.Rules.{Accepts};
+ghost use Rattle.interp.specs.Running.{running_of};
 ghost use Rattle.interp.specs.computed.Step.{outcome, ends_true, inner_verdict, verdict_on, verdict_with, verdict};
 
+use crate::base::base;
 use crate::element::Element;
 use crate::execution::Execution;
 use crate::job::Job;
 use crate::no_verdict::Unverified;
 use crate::pile::Pile;
+use crate::running::Running;
 use script::opcode::OP_PUSHDATA4;
 use script::{MAX_SCRIPT_SIZE, Ops, is_p2sh, push_only};
 use signatures::{KnowsSignatures, Table};
@@ -70,13 +73,13 @@ pub fn first_op(script: &[u8]) -> Option<(&[u8], &[u8])>
 #[tactic(auto, unfolding(crate::specs::computed::Step::outcome))]
 fn run<K: KnowsSignatures>(
     alloc: Global,
-    job: &Job,
+    running: &Running,
     known: &K,
     script: &[u8],
     stack: Pile<Element>,
 ) -> Result<Option<Pile<Element>>, Unverified>
-    requires { job.now.input < length job.now.tx.now.inputs }
-    ensures { Tells result (outcome (K.known known.now) (question_of job.now) script.now stack) }
+    requires { running.now.input < length running.now.tx.now.inputs }
+    ensures { Tells result (outcome (K.known known.now) (running_of running.now) script.now stack) }
 {
     if script.len() > MAX_SCRIPT_SIZE {
         return Ok(None);
@@ -84,7 +87,7 @@ fn run<K: KnowsSignatures>(
     let mut execution = Execution::new(alloc, script, stack);
     let mut ahead = script;
     while let Some((op, after)) = first_op(ahead) {
-        if !execution.step(alloc, job, known, after, op)? {
+        if !execution.step(alloc, running, known, after, op)? {
             return Ok(None);
         }
         ahead = after;
@@ -99,16 +102,16 @@ fn run<K: KnowsSignatures>(
 #[tactic(auto, unfolding(crate::specs::computed::Step::ends_true))]
 fn runs_to_true<K: KnowsSignatures>(
     alloc: Global,
-    job: &Job,
+    running: &Running,
     known: &K,
     script: &[u8],
     stack: Pile<Element>,
 ) -> Result<bool, Unverified>
-    requires { job.now.input < length job.now.tx.now.inputs }
+    requires { running.now.input < length running.now.tx.now.inputs }
     ensures { Tells result
-        (ends_true (outcome (K.known known.now) (question_of job.now) script.now stack)) }
+        (ends_true (outcome (K.known known.now) (running_of running.now) script.now stack)) }
 {
-    let Some(end) = run(alloc, job, known, script, stack)? else {
+    let Some(end) = run(alloc, running, known, script, stack)? else {
         return Ok(false);
     };
     if end.len() == 0 {
@@ -138,7 +141,7 @@ fn accepts_inner<K: KnowsSignatures>(
     }
     let mut left = left;
     let inner = left.pop();
-    runs_to_true(alloc, job, known, inner.as_slice(), left)
+    runs_to_true(alloc, &base(job), known, inner.as_slice(), left)
 }
 
 /// Whether the scripts accept, with the stack that the input script left.
@@ -154,10 +157,10 @@ fn accepts_on<K: KnowsSignatures>(
     ensures { Tells result (verdict_on (K.known known.now) (question_of job.now) script.now left) }
 {
     if !job.flags.p2sh || !is_p2sh(job.spent) {
-        return runs_to_true(alloc, job, known, job.spent, left);
+        return runs_to_true(alloc, &base(job), known, job.spent, left);
     }
     let same = left.copy(alloc)?;
-    if !runs_to_true(alloc, job, known, job.spent, same)? {
+    if !runs_to_true(alloc, &base(job), known, job.spent, same)? {
         return Ok(false);
     }
     accepts_inner(alloc, job, known, script, left)
@@ -174,7 +177,7 @@ fn accepts<K: KnowsSignatures>(
     requires { job.now.input < length job.now.tx.now.inputs }
     ensures { Tells result (verdict_with (K.known known.now) (question_of job.now) script.now) }
 {
-    let Some(left) = run(alloc, job, known, script, Pile::new(alloc))? else {
+    let Some(left) = run(alloc, &base(job), known, script, Pile::new(alloc))? else {
         return Ok(false);
     };
     accepts_on(alloc, job, known, script, left)

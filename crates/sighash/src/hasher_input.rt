@@ -33,7 +33,7 @@ fn len(piece: &[u8]) -> u64
 }
 
 /// Feeds a script that is the pieces joined, after its length.
-fn feed_script(hasher: &mut Sha256, pieces: &[&[u8]])
+pub fn feed_script(hasher: &mut Sha256, pieces: &[&[u8]])
     ensures { (fed : List ℕ) → Holds256 hasher.old fed
         → Holds256 hasher.new (fed ++ sized_bytes.spell (concat (bytes_of pieces.now))) }
 {

@@ -1,15 +1,17 @@
 //! The digests that signatures of witnesses of version 0 sign (BIP 143).
 
 ghost use Rattle.std.specs.Prelude.{◌≡◌, ◌++◌, ◌∷◌, [], List, ℕ, slice_get};
+ghost use Rattle.std.specs.List.{concat};
 ghost use Rattle.std.specs.Option.{option_map_or};
 ghost use Rattle.sha2.specs.Hashers.{Holds256};
-ghost use Rattle.wire.specs.Grammar.{sized_bytes};
+ghost use Rattle.script.specs.Removal.{bytes_of};
 ghost use Rattle.sighash.specs.WitnessDigest.{prevouts_hash, sequences_hash, outputs_hash, signed_prevouts, signed_sequences, signed_outputs, signed_input, witness_digest_of};
 
+use crate::hasher_input::feed_script;
 use crate::kind::{frees_sequences, is_alone, is_none, is_single};
 use hash::finish;
 use sha2::{Digest, Sha256};
-use txn::hasher_input::{feed_count, feed_each_output, feed_outpoint, feed_output};
+use txn::hasher_input::{feed_each_output, feed_outpoint, feed_output};
 use txn::{Tx, TxIn, TxOut};
 
 /// What stands in a message where nothing of the kind is signed.
@@ -41,11 +43,12 @@ impl<'a> WitnessHashes<'a> {
         }
     }
 
-    /// What a signature of the input of this number signs, for a hash type of four bytes: the code is signed as it stands,
-    /// and the value, in satoshis, is that of the output that the input spends. Where there is no such input, the message
-    /// has none.
-    pub fn digest(&self, input: usize, code: &[u8], value: i64, kind: u32) -> [u8; 32]
-        ensures { result ≡ witness_digest_of self.now.tx.now input code.now value kind }
+    /// What a signature of the input of this number signs, for a hash type of four bytes: the code, given in pieces, is
+    /// signed as it stands, and the value, in satoshis, is that of the output that the input spends. Where there is no
+    /// such input, the message has none.
+    pub fn digest(&self, input: usize, code: &[&[u8]], value: i64, kind: u32) -> [u8; 32]
+        ensures { result ≡ witness_digest_of self.now.tx.now input
+            (concat (bytes_of code.now)) value kind }
     {
         let tx = self.tx;
         let mut hasher = Sha256::new();
@@ -131,30 +134,23 @@ fn hash_of_output(output: &TxOut) -> [u8; 32]
 }
 
 /// Feeds the signed input, if there is one of this number.
-fn feed_input_at(hasher: &mut Sha256, inputs: &[TxIn], n: usize, code: &[u8], value: i64)
+fn feed_input_at(hasher: &mut Sha256, inputs: &[TxIn], n: usize, code: &[&[u8]], value: i64)
     ensures { (fed : List ℕ) → Holds256 hasher.old fed → Holds256 hasher.new
-        (fed ++ option_map_or (signed_input code.now value) (slice_get inputs.now n) []) }
+        (fed ++ option_map_or (signed_input (concat (bytes_of code.now)) value)
+            (slice_get inputs.now n) []) }
 {
     if let Some(input) = inputs.get(n) {
         feed_signed_input(hasher, input, code, value);
     }
 }
 
-fn feed_signed_input(hasher: &mut Sha256, input: &TxIn, code: &[u8], value: i64)
+fn feed_signed_input(hasher: &mut Sha256, input: &TxIn, code: &[&[u8]], value: i64)
     ensures { (fed : List ℕ) → Holds256 hasher.old fed
-        → Holds256 hasher.new (fed ++ signed_input code.now value input.now) }
+        → Holds256 hasher.new
+            (fed ++ signed_input (concat (bytes_of code.now)) value input.now) }
 {
     feed_outpoint(hasher, &input.prev);
-    feed_code(hasher, code);
+    feed_script(hasher, code);
     hasher.update(value.to_le_bytes());
     hasher.update(input.sequence.to_le_bytes());
-}
-
-/// Feeds the code after its length.
-fn feed_code(hasher: &mut Sha256, code: &[u8])
-    ensures { (fed : List ℕ) → Holds256 hasher.old fed
-        → Holds256 hasher.new (fed ++ sized_bytes.spell code.now) }
-{
-    feed_count(hasher, code.len() as u128);
-    hasher.update(code);
 }

@@ -1,11 +1,10 @@
 -- Whether signatures are valid, by what is known.
 use Rattle.std.specs.Prelude.{ℕ, ◌==◌, List, [], ◌∷◌, length, Bool, true, false, not, ◌||◌, nat_lt, Option, Some, None, if◌then◌else◌}
-use Rattle.sighash.specs.Digest.{digest_of}
 use Rattle.signatures.specs.computed.Shape.{is_strict}
 use Rattle.signatures.specs.Known.{Known}
 use Rattle.signatures.specs.Triple.{Triple, triple_of}
 use Rattle.interp.specs.Answer.{Answer, Says, Wants, answer_map, and_then}
-use Rattle.interp.specs.Question.{Question}
+use Rattle.interp.specs.Running.{Running, digest_with}
 use Rattle.interp.specs.Signatures.{signature_proper, type_of}
 use Rattle.interp.specs.Stack.{Bytes}
 use Rattle.interp.specs.declared.flags.Flags.{Flags}
@@ -24,20 +23,20 @@ verdict_or_wanted (Some valid) t = Says valid
 verdict_or_wanted None t = Wants t
 
 -- what is asked of a signature that isn't empty: whether it is valid for this key, over the digest of its type
-abbrev pub triple_for : Question → List ℕ → Bytes → Bytes → Triple
-triple_for q code signature key = triple_of key (signature_proper signature) (digest_of q.tx q.input code (type_of signature))
+abbrev pub triple_for : Running → List ℕ → Bytes → Bytes → Triple
+triple_for r code signature key = triple_of key (signature_proper signature) (digest_with r.value r.tx r.input code (type_of signature))
 
 -- whether a pair is valid, where the signature may be tried
-unfoldable pub pair_verdict : Known → Question → List ℕ → Bytes → Bytes → Answer (Option Bool)
-pair_verdict known q code signature key =
-    if may_be_tried q.flags signature
-    then (if length signature == 0 then Says (Some false) else answer_map Some (verdict_or_wanted (known (triple_for q code signature key)) (triple_for q code signature key)))
+unfoldable pub pair_verdict : Known → Running → List ℕ → Bytes → Bytes → Answer (Option Bool)
+pair_verdict known r code signature key =
+    if may_be_tried r.flags signature
+    then (if length signature == 0 then Says (Some false) else answer_map Some (verdict_or_wanted (known (triple_for r code signature key)) (triple_for r code signature key)))
     else Says None
 
 -- pairs from the top down: a valid one uses up both, another the key alone
-unfoldable pub pairs_verdict : Known → Question → List ℕ → List Bytes → List Bytes → Answer (Option Bool)
-pairs_verdict known q code [] keys = Says (Some true)
-pairs_verdict known q code (signature ∷ signatures) [] = Says (Some false)
-pairs_verdict known q code (signature ∷ signatures) (key ∷ keys) =
+unfoldable pub pairs_verdict : Known → Running → List ℕ → List Bytes → List Bytes → Answer (Option Bool)
+pairs_verdict known r code [] keys = Says (Some true)
+pairs_verdict known r code (signature ∷ signatures) [] = Says (Some false)
+pairs_verdict known r code (signature ∷ signatures) (key ∷ keys) =
     if nat_lt (length keys) (length signatures) then Says (Some false)
-    else and_then (λ valid. if valid then pairs_verdict known q code signatures keys else pairs_verdict known q code (signature ∷ signatures) keys) (pair_verdict known q code signature key)
+    else and_then (λ valid. if valid then pairs_verdict known r code signatures keys else pairs_verdict known r code (signature ∷ signatures) keys) (pair_verdict known r code signature key)

@@ -4,11 +4,10 @@ use Rattle.std.specs.Option.{option_map}
 use Rattle.signatures.specs.Known.{Known}
 use Rattle.interp.specs.Limits.{max_ops, max_keys, max_number_size}
 use Rattle.interp.specs.Answer.{Answer, answer_map}
-use Rattle.interp.specs.Question.{Question}
+use Rattle.interp.specs.Running.{Running, code_with}
 use Rattle.interp.specs.Stack.{Stack, Bytes, nth}
 use Rattle.interp.specs.Elements.{truth_bytes, natural_of}
 use Rattle.interp.specs.State.{State}
-use Rattle.interp.specs.Signatures.{signed_code}
 use Rattle.interp.specs.Effects.{◌>>=◌}
 use Rattle.interp.specs.computed.Signatures.{pairs_verdict}
 
@@ -35,10 +34,10 @@ counts_of s = do
   signatures ← many keys (drop (keys + 1) s.main)
   if nat_lt (length s.main) (keys + signatures + 3) then None else (if nat_lt max_ops (s.count + keys) then None else Some (keys, signatures))
 
-abbrev pub multisig_answer : Known → Question → List ℕ → Stack → ℕ × ℕ → Answer (Option Bool)
-multisig_answer known q code s counts =
-    pairs_verdict known q (signed_code code (signatures_in counts.0 counts.1 s)) (signatures_in counts.0 counts.1 s) (keys_in counts.0 s)
+abbrev pub multisig_answer : Known → Running → List ℕ → Stack → ℕ × ℕ → Answer (Option Bool)
+multisig_answer known r code s counts =
+    pairs_verdict known r (code_with r.value code (signatures_in counts.0 counts.1 s)) (signatures_in counts.0 counts.1 s) (keys_in counts.0 s)
 
-abbrev pub after_counts : Known → Question → State → ℕ × ℕ → Answer (Option State)
-after_counts known q s counts =
-    answer_map (option_map (λ valid. record s { main = truth_bytes valid ∷ drop (counts.0 + counts.1 + 3) s.main; count = s.count + counts.0 })) (multisig_answer known q s.code s.main counts)
+abbrev pub after_counts : Known → Running → State → ℕ × ℕ → Answer (Option State)
+after_counts known r s counts =
+    answer_map (option_map (λ valid. record s { main = truth_bytes valid ∷ drop (counts.0 + counts.1 + 3) s.main; count = s.count + counts.0 })) (multisig_answer known r s.code s.main counts)

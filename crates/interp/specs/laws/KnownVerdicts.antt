@@ -10,7 +10,7 @@ use Rattle.signatures.specs.Triple.{Triple}
 use Rattle.signatures.specs.laws.Growth.{Grows}
 use Rattle.interp.specs.Answer.{Answer, Says, Wants, answer_map, on_some, and_then, also}
 use Rattle.interp.specs.Question.{Question}
-use Rattle.interp.specs.Signatures.{signed_code}
+use Rattle.interp.specs.Running.{Running, base, code_with}
 use Rattle.interp.specs.Stack.{Stack, Bytes}
 use Rattle.interp.specs.State.{State, is_executing, start}
 use Rattle.interp.specs.Row.{Check, Of, Sig, Multisig, Row, Does, Controls, Tests, AndVerifies, Separates, Asks, row_of}
@@ -46,18 +46,18 @@ module _ (known more : Known) where
   if-stays true f g h k s t = s
   if-stays false f g h k s t = t
 
-module _ (known more : Known) (grows : Grows known more) (q : Question) where
+module _ (known more : Known) (grows : Grows known more) (r : Running) where
   wanted-stays : (t : Triple) (o : Option Bool) → known t ≡ o → Stays known more (verdict_or_wanted o t) (verdict_or_wanted (more t) t)
   wanted-stays t (Some valid) is = rw (grows t valid is) refl
   wanted-stays t None is = (is, λ none. ap (λ o. verdict_or_wanted o t) none)
 
-  pair-stays : (code : List ℕ) (signature key : Bytes) → Stays known more (pair_verdict known q code signature key) (pair_verdict more q code signature key)
+  pair-stays : (code : List ℕ) (signature key : Bytes) → Stays known more (pair_verdict known r code signature key) (pair_verdict more r code signature key)
   unfolding pair_verdict
   pair-stays code signature key =
-      if-stays known more (may_be_tried q.flags signature) _ _ _ _
-      (if-stays known more (eqb (length signature) 0) _ _ _ _ refl (map-stays known more Some _ _ (wanted-stays (triple_for q code signature key) (known (triple_for q code signature key)) refl))) refl
+      if-stays known more (may_be_tried r.flags signature) _ _ _ _
+      (if-stays known more (eqb (length signature) 0) _ _ _ _ refl (map-stays known more Some _ _ (wanted-stays (triple_for r code signature key) (known (triple_for r code signature key)) refl))) refl
 
-  pairs-stay : (code : List ℕ) (signatures keys : List Bytes) → Stays known more (pairs_verdict known q code signatures keys) (pairs_verdict more q code signatures keys)
+  pairs-stay : (code : List ℕ) (signatures keys : List Bytes) → Stays known more (pairs_verdict known r code signatures keys) (pairs_verdict more r code signatures keys)
   unfolding pairs_verdict
   pairs-stay code [] keys = refl
   pairs-stay code (signature ∷ signatures) [] = refl
@@ -65,22 +65,22 @@ module _ (known more : Known) (grows : Grows known more) (q : Question) where
       if-stays known more (ltb (length keys) (length signatures)) _ _ _ _ refl
       (then-stays known more _ _ _ _ (λ valid. if-stays known more valid _ _ _ _ (pairs-stay code signatures keys) (pairs-stay code (signature ∷ signatures) keys)) (pair-stays code signature key))
 
-  sig-stays : (s : State) (main : Stack) → Stays known more (after_sig known q s main) (after_sig more q s main)
+  sig-stays : (s : State) (main : Stack) → Stays known more (after_sig known r s main) (after_sig more r s main)
   unfolding after_sig
   sig-stays s [] = refl
   sig-stays s (key ∷ []) = refl
-  sig-stays s (key ∷ signature ∷ rest) = map-stays known more _ _ _ (pair-stays (signed_code s.code (signature ∷ [])) signature key)
+  sig-stays s (key ∷ signature ∷ rest) = map-stays known more _ _ _ (pair-stays (code_with r.value s.code (signature ∷ [])) signature key)
 
-  multisig-stays : (s : State) → Stays known more (after_multisig known q s) (after_multisig more q s)
+  multisig-stays : (s : State) → Stays known more (after_multisig known r s) (after_multisig more r s)
   unfolding after_multisig
   multisig-stays s = some-stays known more _ _ (multisig_of s) (λ taken. map-stays known more _ _ _ (pairs-stay _ _ _))
 
-  test-stays : (check : Check) (s : State) → Stays known more (after_test known q check s) (after_test more q check s)
+  test-stays : (check : Check) (s : State) → Stays known more (after_test known r check s) (after_test more r check s)
   test-stays (Of f) s = refl
   test-stays Sig s = sig-stays s s.main
   test-stays Multisig s = map-stays known more _ _ _ (multisig-stays s)
 
-  executing-stays : (after : List ℕ) (row : Row) (s : State) → Stays known more (after_executing known q after row s) (after_executing more q after row s)
+  executing-stays : (after : List ℕ) (row : Row) (s : State) → Stays known more (after_executing known r after row s) (after_executing more r after row s)
   executing-stays after (Does f) s = refl
   executing-stays after (Controls f untaken) s = refl
   executing-stays after (Tests check) s = test-stays check s
@@ -88,22 +88,22 @@ module _ (known more : Known) (grows : Grows known more) (q : Question) where
   executing-stays after Separates s = refl
   executing-stays after (Asks in_force test) s = refl
 
-  acting-stays : (after : List ℕ) (row : Row) (s : State) → Stays known more (after_acting known q after row s) (after_acting more q after row s)
+  acting-stays : (after : List ℕ) (row : Row) (s : State) → Stays known more (after_acting known r after row s) (after_acting more r after row s)
   unfolding after_acting
   acting-stays after row s = if-stays known more (is_executing s) _ _ _ _ (executing-stays after row s) refl
 
-  step-stays : (after op : List ℕ) (s : State) → Stays known more (step known q after op s) (step more q after op s)
+  step-stays : (after op : List ℕ) (s : State) → Stays known more (step known r after op s) (step more r after op s)
   unfolding step step_at
   step-stays after [] s = refl
   step-stays after (number ∷ bytes) s =
       some-stays known more _ _ (with_count number s) (λ counted. map-stays known more _ _ _ (acting-stays after (row_of (number ∷ bytes)) counted))
 
-  run-stays : (left : List ℕ) (list : List (List ℕ)) (s : State) → Stays known more (run known q left list s) (run more q left list s)
+  run-stays : (left : List ℕ) (list : List (List ℕ)) (s : State) → Stays known more (run known r left list s) (run more r left list s)
   unfolding run
   run-stays left [] s = refl
   run-stays left (op ∷ others) s = then-stays known more _ _ _ _ (run-stays left others) (step-stays (concat others ++ left) op s)
 
-  outcome-stays : (script : List ℕ) (stack : Stack) → Stays known more (outcome known q script stack) (outcome more q script stack)
+  outcome-stays : (script : List ℕ) (stack : Stack) → Stays known more (outcome known r script stack) (outcome more r script stack)
   unfolding outcome
   outcome-stays script stack =
       if-stays known more (ltb 10000 (length script)) _ _ _ _ refl (map-stays known more _ _ _ (run-stays (rest script) (ops script) (start script stack)))
@@ -112,18 +112,19 @@ module _ (known more : Known) (grows : Grows known more) (q : Question) where
   unfolding ends_true
   ends-stay a b h = map-stays known more _ a b h
 
-  inner-outcome-stays : (left : Stack) → Stays known more (inner_outcome known q left) (inner_outcome more q left)
+  inner-outcome-stays : (left : Stack) → Stays known more (inner_outcome known r left) (inner_outcome more r left)
   inner-outcome-stays [] = refl
   inner-outcome-stays (inner ∷ others) = outcome-stays inner others
 
+module _ (known more : Known) (grows : Grows known more) (q : Question) where
   inner-stays : (script : List ℕ) (left : Stack) → Stays known more (inner_verdict known q script left) (inner_verdict more q script left)
   unfolding inner_verdict
-  inner-stays script left = if-stays known more (is_push_only script) _ _ _ _ (ends-stay _ _ (inner-outcome-stays left)) refl
+  inner-stays script left = if-stays known more (is_push_only script) _ _ _ _ (ends-stay known more grows (base q) _ _ (inner-outcome-stays known more grows (base q) left)) refl
 
   on-stays : (script : List ℕ) (left : Stack) → Stays known more (verdict_on known q script left) (verdict_on more q script left)
   unfolding verdict_on
   on-stays script left =
-      also-stays known more _ _ _ _ (ends-stay _ _ (outcome-stays q.spent left)) (if-stays known more (q.flags.p2sh && is_p2sh q.spent) _ _ _ _ (inner-stays script left) refl)
+      also-stays known more _ _ _ _ (ends-stay known more grows (base q) _ _ (outcome-stays known more grows (base q) q.spent left)) (if-stays known more (q.flags.p2sh && is_p2sh q.spent) _ _ _ _ (inner-stays script left) refl)
 
   after-stays : (script : List ℕ) (a b : Answer (Option Stack)) → Stays known more a b → Stays known more (verdict_after known q script a) (verdict_after more q script b)
   after-stays script (Says (Some left)) b h = rw h (on-stays script left)
@@ -132,7 +133,7 @@ module _ (known more : Known) (grows : Grows known more) (q : Question) where
 
   input-stays : (own : Option TxIn) → Stays known more (verdict_of_input known q own) (verdict_of_input more q own)
   unfolding verdict_with
-  input-stays (Some own) = after-stays own.script _ _ (outcome-stays own.script [])
+  input-stays (Some own) = after-stays own.script _ _ (outcome-stays known more grows (base q) own.script [])
   input-stays None = refl
 
   verdict-stays : Stays known more (verdict known q) (verdict more q)

@@ -9,7 +9,7 @@ use Rattle.script.specs.laws.Ops.{length_taken, op_len_positive, op_len_bound, o
 use Rattle.interp.specs.Stack.{Stack}
 use Rattle.signatures.specs.Known.{Known}
 use Rattle.interp.specs.Answer.{Says, answer_map, and_then}
-use Rattle.interp.specs.Question.{Question}
+use Rattle.interp.specs.Running.{Running}
 use Rattle.interp.specs.State.{State, start}
 use Rattle.interp.specs.computed.Step.{run, step, outcome, end_of}
 
@@ -36,25 +36,25 @@ pub whole : (bytes : List ℕ) → bytes ≡ concat (ops bytes) ++ rest bytes
 whole bytes = whole-by (suc (length bytes)) bytes (op_len bytes) refl (omega arith)
 
 -- ---- one more opcode
-module _ (known : Known) (q : Question) where
+module _ (known : Known) (r : Running) where
   pub run-more : (bytes op more : List ℕ) (s : State) → ops bytes ≡ op ∷ ops more → bytes ≡ op ++ more
-      → run known q (rest bytes) (ops bytes) s ≡ and_then (run known q (rest more) (ops more)) (step known q more op s)
+      → run known r (rest bytes) (ops bytes) s ≡ and_then (run known r (rest more) (ops more)) (step known r more op s)
   unfolding run
   run-more bytes op more s first w =
-      ap (λ left. run known q left (ops bytes) s) (rest-more bytes op more first w)
-      ∙ ap (λ list. run known q (rest more) list s) first
-      ∙ ap (λ after. and_then (run known q (rest more) (ops more)) (step known q after op s)) (sym (whole more))
+      ap (λ left. run known r left (ops bytes) s) (rest-more bytes op more first w)
+      ∙ ap (λ list. run known r (rest more) list s) first
+      ∙ ap (λ after. and_then (run known r (rest more) (ops more)) (step known r after op s)) (sym (whole more))
 
-  pub run-ended : (bytes : List ℕ) (s : State) → ops bytes ≡ [] → run known q (rest bytes) (ops bytes) s ≡ Says (Some s)
+  pub run-ended : (bytes : List ℕ) (s : State) → ops bytes ≡ [] → run known r (rest bytes) (ops bytes) s ≡ Says (Some s)
   unfolding run
   run-ended bytes s e = rw e refl
 
   -- ---- the whole script
-  pub outcome-long : (script : List ℕ) (stack : Stack) → 10000 < length script → outcome known q script stack ≡ Says None
+  pub outcome-long : (script : List ℕ) (stack : Stack) → 10000 < length script → outcome known r script stack ≡ Says None
   unfolding outcome
   outcome-long script stack h = rw (lt-ltb 10000 (length script) h) refl
 
   pub outcome-ran : (script : List ℕ) (stack : Stack) → length script ≤ 10000
-      → outcome known q script stack ≡ answer_map (option_and_then (end_of (is_whole script))) (run known q (rest script) (ops script) (start script stack))
+      → outcome known r script stack ≡ answer_map (option_and_then (end_of (is_whole script))) (run known r (rest script) (ops script) (start script stack))
   unfolding outcome
   outcome-ran script stack h = rw (le-ltb 10000 (length script) h) refl

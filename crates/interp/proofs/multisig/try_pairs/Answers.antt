@@ -3,8 +3,8 @@ use Rattle.std.specs.List.{concat}
 use Rattle.std.proofs.lemmas.Result.{err_from_is_err_and}
 use borrow.Author.Tests.{eqb-true}
 use Rattle.script.specs.Removal.{bytes_of}
-use Rattle.sighash.specs.Digest.{digest_of}
 use Rattle.interp.specs.Answer.{Says}
+use Rattle.interp.specs.Running.{digest_with, value_of}
 use Rattle.interp.specs.Signatures.{type_of}
 use Rattle.interp.proofs.Pairs.{some-there, turn-of, ended, used-up, few-left, unshaped, empty, wanted, valid, invalid}
 use Rattle.interp.proofs.multisig.try_pairs.Goals.{then-not-is_empty+in_ok-valid, then-valid, else-valid, else-not-is_empty}
@@ -54,7 +54,7 @@ loop-place-preserved g c =
                   same = c.loop-place.invariant.same ∙ invalid _ _ _ c.args.signatures.now c.args.keys.now _ _ _ _ turn
                       w.known_or_worked_out-digest.result (sym c.if-not-may_be_tried.ensures) (some-there _ w.if-not-is_empty.ensures) w.known_or_worked_out-digest.ensures (w.in_ok-valid.ensures ∙ ap Says v.if-valid.false);
                   within = c.loop-place.invariant.within;
-                  right = w.known_or_worked_out-digest.ensures ∙ ap (λ s. digest_of c.args.job.now.tx.now c.args.job.now.input (concat (bytes_of c.args.code.now)) (type_of s)) (sym turn.first);
+                  right = w.known_or_worked_out-digest.ensures ∙ ap (λ s. digest_with (value_of c.args.running.now) c.args.running.now.tx.now c.args.running.now.input (concat (bytes_of c.args.code.now)) (type_of s)) (sym turn.first);
                 })
           ]
       | else-not-is_empty w ↦

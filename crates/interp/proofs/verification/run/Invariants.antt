@@ -1,6 +1,6 @@
 use Rattle.std.proofs.Common.{◌≡◌, length}
 use Rattle.script.specs.Ops.{ops, rest}
-use Rattle.interp.specs.Question.{question_of}
+use Rattle.interp.specs.Running.{running_of}
 use Rattle.interp.specs.State.{start}
 use Rattle.interp.specs.computed.Step.{run}
 use Rattle.interp.proofs.verification.run.Given as goal
@@ -8,8 +8,8 @@ use Rattle.interp.proofs.verification.run.Given as goal
 -- what is left of the script comes to what the whole comes to
 abbrev pub invariant-loop-op : goal.invariant-loop-op
 invariant-loop-op g l = record {
-  same : run (g.K.KnowsSignatures.known l.known) (question_of l.job) (rest l.script) (ops l.script) (start l.script l.fn.stack)
-      ≡ run (g.K.KnowsSignatures.known l.known) (question_of l.job) (rest l.ahead) (ops l.ahead) l.execution;
+  same : run (g.K.KnowsSignatures.known l.known) (running_of l.running) (rest l.script) (ops l.script) (start l.script l.fn.stack)
+      ≡ run (g.K.KnowsSignatures.known l.known) (running_of l.running) (rest l.ahead) (ops l.ahead) l.execution;
   left : rest l.ahead ≡ rest l.script;
 }
 

@@ -5,7 +5,7 @@ use Rattle.script.specs.laws.Ops.{rest-more}
 use Rattle.interp.specs.computed.NamedFailures.{◌>>=◌, or_else, end_named}
 use Rattle.interp.specs.declared.script_error.ScriptError.TheVariants.{UnbalancedConditional}
 use Rattle.interp.proofs.NamedRun.{eval-long, eval-ran, named-more, named-ended}
-use Rattle.interp.proofs.evaluation.eval_script.Goals as goal
+use Rattle.interp.proofs.evaluation.run_or_name.Goals as goal
 
 pub returns-then-script-gt-MAX_SCRIPT_SIZE : goal.returns-then-script-gt-MAX_SCRIPT_SIZE
 returns-then-script-gt-MAX_SCRIPT_SIZE g c = eval-long _ _ c.args.script.now _ (omega arith)
