@@ -18,7 +18,7 @@ inner-empty known q script [] h = by (is_push_only script)
     by false = refl
 inner-empty known q script (a ∷ left) h = absurd (omega arith)
 
-there : {A : Type 0} (xs : List A) (k : ℕ) (d : A) → k < length xs → slice_get xs k ≡ Some (get_or xs k d)
+pub there : {A : Type 0} (xs : List A) (k : ℕ) (d : A) → k < length xs → slice_get xs k ≡ Some (get_or xs k d)
 there [] k d h = absurd (omega arith)
 there (x ∷ xs) zero d h = refl
 there (x ∷ xs) (suc k) d h = there xs k d (omega arith)

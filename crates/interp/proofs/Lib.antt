@@ -3,6 +3,7 @@ pub mod OpcodeNames
 pub mod PushFailure
 pub mod Piles
 pub mod Truth
+pub mod Witnesses
 pub mod FirstFalse
 pub mod Counts
 pub mod MultisigStack

@@ -5,6 +5,7 @@ pub mod ScriptContext
 pub mod State
 pub mod Signatures
 pub mod Timelocks
+pub mod Witness
 pub mod Effects
 pub mod Row
 pub mod Failures

@@ -41,7 +41,7 @@ use std::marker::Model;
 use wire::Memory;
 
 /// How many bytes a push has at most (Bitcoin Core's `MAX_SCRIPT_ELEMENT_SIZE`).
-const MAX_PUSH: usize = 520;
+pub const MAX_PUSH: usize = 520;
 
 /// How many opcodes above OP_16 a script has at most (Bitcoin Core's `MAX_OPS_PER_SCRIPT`).
 pub const MAX_OPS: usize = 201;

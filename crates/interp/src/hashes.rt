@@ -30,7 +30,7 @@ fn sha1(bytes: &[u8]) -> [u8; 20]
     sha1::Sha1::digest(bytes)
 }
 
-fn sha256(bytes: &[u8]) -> [u8; 32]
+pub fn sha256(bytes: &[u8]) -> [u8; 32]
     ensures { result ≡ sha256 bytes.now }
 {
     sha2::Sha256::digest(bytes)

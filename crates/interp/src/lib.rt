@@ -24,6 +24,7 @@ mod script_error;
 mod signature_check;
 mod timelocks;
 mod verification;
+mod witness;
 
 pub use element::Element;
 pub use evaluation::{eval_script, verify_script};
@@ -33,3 +34,4 @@ pub use no_verdict::Unverified;
 pub use pile::Pile;
 pub use script_error::ScriptError;
 pub use verification::{verify, verify_with};
+pub use witness::verify_witness;

@@ -71,7 +71,7 @@ pub fn first_op(script: &[u8]) -> Option<(&[u8], &[u8])>
 
 /// Runs a script on a stack, and gives the stack that it leaves, or nothing where it fails.
 #[tactic(auto, unfolding(crate::specs::computed::Step::outcome))]
-fn run<K: KnowsSignatures>(
+pub fn run<K: KnowsSignatures>(
     alloc: Global,
     running: &Running,
     known: &K,

@@ -1,4 +1,4 @@
-use Rattle.std.proofs.Common.{◌≡◌, ℕ, List, ◌+◌, slice_get, length, eqb, Some, ap, sym, ◌∙◌}
+use Rattle.std.proofs.Common.{ℕ, List, ◌+◌, slice_get, length, eqb, ap, sym, ◌∙◌}
 use Rattle.interp.specs.State.{State}
 use Rattle.interp.proofs.MultisigStack.{dummy-free, dummy-missing, dummy-there}
 use Rattle.interp.proofs.execution.Execution.may_take_dummy.Goals as goal
