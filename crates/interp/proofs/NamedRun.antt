@@ -12,7 +12,7 @@ use Rattle.interp.specs.Question.{Question}
 use Rattle.interp.specs.Running.{Running}
 use Rattle.interp.specs.Stack.{Stack}
 use Rattle.interp.specs.State.{State, start}
-use Rattle.interp.specs.computed.NamedFailures.{Named, ◌>>=◌, step_named, run_named, end_named, eval_script, inner_named, verify_with_script, verify_script}
+use Rattle.interp.specs.computed.NamedFailures.{Named, ◌>>=◌, step_named, run_named, end_named, eval_running, inner_named, verify_with_script, verify_script}
 use Rattle.interp.specs.declared.script_error.ScriptError.TheVariants.{UnknownError, EvalFalse, ScriptSize}
 use Rattle.interp.specs.laws.Runs.{whole}
 
@@ -31,13 +31,13 @@ module _ (known : Known) (r : Running) where
   unfolding run_named
   named-ended bytes s e = rw e refl
 
-  pub eval-long : (script : List ℕ) (stack : Stack) → 10000 < length script → eval_script known r script stack ≡ Says (Err ScriptSize)
-  unfolding eval_script
+  pub eval-long : (script : List ℕ) (stack : Stack) → 10000 < length script → eval_running known r script stack ≡ Says (Err ScriptSize)
+  unfolding eval_running
   eval-long script stack h = rw (lt-ltb 10000 (length script) h) refl
 
   pub eval-ran : (script : List ℕ) (stack : Stack) → length script ≤ 10000
-      → eval_script known r script stack ≡ run_named known r (rest script) (ops script) (start script stack) >>= end_named (is_whole script)
-  unfolding eval_script
+      → eval_running known r script stack ≡ run_named known r (rest script) (ops script) (start script stack) >>= end_named (is_whole script)
+  unfolding eval_running
   eval-ran script stack h = rw (le-ltb 10000 (length script) h) refl
 
 module _ (known : Known) (q : Question) where

@@ -3,8 +3,8 @@
 ghost use Rattle.std.specs.Prelude.{◌<◌, length};
 ghost use Rattle.interp.specs.Answer.{Tells};
 ghost use Rattle.interp.specs.Question.{question_of};
-ghost use Rattle.interp.specs.Running.{base, running_of};
-ghost use Rattle.interp.specs.computed.NamedFailures.{eval_script, eval_to_true, inner_named, on_left, verify_with_script, verify_script};
+ghost use Rattle.interp.specs.Running.{running_of};
+ghost use Rattle.interp.specs.computed.NamedFailures.{eval_script, eval_running, eval_to_true, inner_named, on_left, verify_with_script, verify_script};
 
 use crate::base::base;
 use crate::element::Element;
@@ -31,7 +31,7 @@ pub fn eval_script<K: KnowsSignatures>(
     // The input is one of the transaction's.
     requires { job.now.input < length job.now.tx.now.inputs }
     ensures { Tells result
-        (eval_script (K.known known.now) (base (question_of job.now)) script.now stack) }
+        (eval_script (K.known known.now) (question_of job.now) script.now stack) }
 {
     run_or_name(alloc, &base(job), known, script, stack)
 }
@@ -46,7 +46,7 @@ fn run_or_name<K: KnowsSignatures>(
 ) -> Result<Result<Pile<Element>, ScriptError>, Unverified>
     requires { running.now.input < length running.now.tx.now.inputs }
     ensures { Tells result
-        (eval_script (K.known known.now) (running_of running.now) script.now stack) }
+        (eval_running (K.known known.now) (running_of running.now) script.now stack) }
 {
     if script.len() > MAX_SCRIPT_SIZE {
         return Ok(Err(ScriptError::ScriptSize));

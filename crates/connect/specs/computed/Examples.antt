@@ -7,6 +7,7 @@ use Rattle.script.specs.Ops.{ops, operand_len, rest}
 use Rattle.signatures.specs.Known.{Known}
 use Rattle.interp.specs.Answer.{Answer, Says}
 use Rattle.interp.specs.Question.{question}
+use Rattle.interp.specs.Running.{base}
 use Rattle.interp.specs.Row.{row_at, row_of, push_row}
 use Rattle.interp.specs.Rules.{multisig_of, with_count}
 use Rattle.interp.specs.Stack.{Stack}
@@ -23,7 +24,7 @@ from_432 = with_height regtest NullDummy 432
 
 -- no signature of no key, and 1 as the element more, in a block at this height
 abbrev one_below : Known → Tx → Params → ℕ → Answer (Option Stack)
-one_below known tx params height = outcome known (question tx 0 [] (flags_of (at params height))) (0x51 ∷ 0x00 ∷ 0x00 ∷ 0xae ∷ []) []
+one_below known tx params height = outcome known (base (question tx 0 [] (flags_of (at params height)))) (0x51 ∷ 0x00 ∷ 0x00 ∷ 0xae ∷ []) []
 
 before_its_height : (known : Known) (tx : Tx) → one_below known tx from_432 431 ≡ Says (Some ((1 ∷ []) ∷ []))
 unfolding pushed_of operand_len ops rest row_at row_of push_row after_acting with_count within_bounds step_at step run outcome operand num_value pairs_verdict multisig_of after_multisig may_be_dummy after_dummy

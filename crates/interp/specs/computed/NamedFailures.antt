@@ -77,12 +77,16 @@ abbrev pub end_named : Bool → State → Named Stack
 end_named whole s = if whole then or_else UnbalancedConditional (stack_left s) else Says (Err BadOpcode)
 
 -- a script on a stack, and the stack that it leaves, or why it fails
-unfoldable pub eval_script : Known → Running → List ℕ → Stack → Named Stack
-eval_script known r script stack =
+unfoldable pub eval_running : Known → Running → List ℕ → Stack → Named Stack
+eval_running known r script stack =
     if nat_lt max_script_size (length script) then Says (Err ScriptSize)
     else run_named known r (rest script) (ops script) (start script stack) >>= end_named (is_whole script)
 
 -- ---- an input
+-- of the scripts of before
+abbrev pub eval_script : Known → Question → List ℕ → Stack → Named Stack
+eval_script known q script stack = eval_running known (base q) script stack
+
 abbrev pub passes : Named (Unit {0})
 passes = Says (Ok tt)
 
@@ -91,7 +95,7 @@ true_top end = if top_is_true end then passes else Says (Err EvalFalse)
 
 -- a script on a stack ends with a true element on top
 unfoldable pub eval_to_true : Known → Running → List ℕ → Stack → Named (Unit {0})
-eval_to_true known r script stack = eval_script known r script stack >>= true_top
+eval_to_true known r script stack = eval_running known r script stack >>= true_top
 
 -- BIP 16: the top of the stack that the input script left, run as a script on the others
 abbrev pub eval_inner : Known → Running → Stack → Named (Unit {0})
@@ -108,7 +112,7 @@ on_left known q script left = do
   if q.flags.p2sh && is_p2sh q.spent then inner_named known q script left else passes
 
 unfoldable pub verify_with_script : Known → Question → List ℕ → Named (Unit {0})
-verify_with_script known q script = eval_script known (base q) script [] >>= on_left known q script
+verify_with_script known q script = eval_script known q script [] >>= on_left known q script
 
 -- why an input may not spend, or that it may
 unfoldable pub verify_script : Known → Question → Named (Unit {0})

@@ -21,7 +21,7 @@ use Rattle.interp.specs.Row.{Check, Of, Sig, Multisig, Row, Does, Controls, Test
 use Rattle.interp.specs.Rules.{skipped, with_count}
 use Rattle.interp.specs.Failures.{name_at, verify_name}
 use Rattle.interp.specs.computed.Step.{after_multisig, after_dummy, after_test, after_executing, after_acting, after_counting, within_bounds, step_at, step, run, stack_left, end_of, outcome, ends_true, inner_outcome, inner_verdict, verdict_on, verdict_after, verdict_with, verdict_of_input, verdict}
-use Rattle.interp.specs.computed.NamedFailures.{Named, ◌>>=◌, or_else, named, tested, executed, acted, step_named, run_named, end_named, eval_script, true_top, eval_to_true, eval_inner, inner_named, on_left, verify_with_script, verify_script}
+use Rattle.interp.specs.computed.NamedFailures.{Named, ◌>>=◌, or_else, named, tested, executed, acted, step_named, run_named, end_named, eval_running, true_top, eval_to_true, eval_inner, inner_named, on_left, verify_with_script, verify_script}
 
 -- without the name of the failure
 abbrev pub unnamed : {A : Type 0} → Named A → Answer (Option A)
@@ -107,8 +107,8 @@ module _ (known : Known) (r : Running) where
   end-same true s = unnamed-else UnbalancedConditional (stack_left s)
   end-same false s = refl
 
-  pub eval-same : (script : List ℕ) (stack : Stack) → unnamed (eval_script known r script stack) ≡ outcome known r script stack
-  unfolding eval_script outcome
+  pub eval-same : (script : List ℕ) (stack : Stack) → unnamed (eval_running known r script stack) ≡ outcome known r script stack
+  unfolding eval_running outcome
   eval-same script stack = by (nat_lt 10000 (length script))
     where
       ran : Named State
@@ -137,7 +137,7 @@ module _ (known : Known) (r : Running) where
 
   to-true-same : (script : List ℕ) (stack : Stack) → passes (eval_to_true known r script stack) ≡ ends_true (outcome known r script stack)
   unfolding eval_to_true
-  to-true-same script stack = true-same (eval_script known r script stack) ∙ ap ends_true (eval-same script stack)
+  to-true-same script stack = true-same (eval_running known r script stack) ∙ ap ends_true (eval-same script stack)
 
 module _ (known : Known) (q : Question) where
   inner-same : (script : List ℕ) (left : Stack) → passes (inner_named known q script left) ≡ inner_verdict known q script left
@@ -175,7 +175,7 @@ module _ (known : Known) (q : Question) where
 
   with-same : (script : List ℕ) → passes (verify_with_script known q script) ≡ verdict_with known q script
   unfolding verify_with_script verdict_with
-  with-same script = after-same script (eval_script known (base q) script []) ∙ ap (verdict_after known q script) (eval-same known (base q) script [])
+  with-same script = after-same script (eval_running known (base q) script []) ∙ ap (verdict_after known q script) (eval-same known (base q) script [])
 
   pub verify-same : passes (verify_script known q) ≡ verdict known q
   unfolding verify_script verdict

@@ -10,9 +10,8 @@ use Rattle.signatures.specs.Triple.{Triple}
 use Rattle.interp.specs.declared.flags.Flags.{Flags}
 use Rattle.interp.specs.Answer.{Answer, Says, answer_map}
 use Rattle.interp.specs.Limits.{max_ops, max_keys}
-use Rattle.interp.specs.Question.{Question}
+use Rattle.interp.specs.Running.{Running, code_with}
 use Rattle.interp.specs.Elements.{truth_bytes}
-use Rattle.interp.specs.Signatures.{signed_code}
 use Rattle.interp.specs.Stack.{Stack, Bytes, pop}
 use Rattle.interp.specs.State.{State, is_executing}
 use Rattle.interp.specs.Effects.{verify, on_main, ask_if}
@@ -75,7 +74,7 @@ bounds-stay (Some s) = by (ltb 1000 (length s.main + length s.alt))
     by true = omega arith
     by false = omega arith
 
-module _ (q : Question) where
+module _ (r : Running) where
   one : (t : Triple) (m : ℕ) → AsksWithin (λ answer. m) (suc m) (λ known. verdict_or_wanted (known t) t)
   one t m = (Ask t (End true) (End false), (m, omega arith, omega arith, omega arith), λ known. by (known t))
     where
@@ -84,17 +83,17 @@ module _ (q : Question) where
       by (Some false) = refl
       by None = refl
 
-  pair : (m : ℕ) (code : List ℕ) (signature key : Bytes) → AsksWithin (left_in (λ answer. m)) (suc m) (λ known. pair_verdict known q code signature key)
+  pair : (m : ℕ) (code : List ℕ) (signature key : Bytes) → AsksWithin (left_in (λ answer. m)) (suc m) (λ known. pair_verdict known r code signature key)
   unfolding pair_verdict
   pair m code signature key =
       let left : Option Bool → ℕ = left_in (λ answer. m) in
-      chosen left (suc m) (may_be_tried q.flags signature) _ _
-      (chosen left (suc m) (eqb (length signature) 0) _ _ (says left (suc m) (Some false) (omega arith)) (maps (λ answer. m) left (suc m) Some _ (λ valid. omega arith) (one (triple_for q code signature key) m)))
+      chosen left (suc m) (may_be_tried r.flags signature) _ _
+      (chosen left (suc m) (eqb (length signature) 0) _ _ (says left (suc m) (Some false) (omega arith)) (maps (λ answer. m) left (suc m) Some _ (λ valid. omega arith) (one (triple_for r code signature key) m)))
       (says left (suc m) None (omega arith))
 
   -- one for each key
   pairs : (m : ℕ) (code : List ℕ) (signatures keys : List Bytes)
-      → AsksWithin (left_in (λ answer. m)) (length keys + m) (λ known. pairs_verdict known q code signatures keys)
+      → AsksWithin (left_in (λ answer. m)) (length keys + m) (λ known. pairs_verdict known r code signatures keys)
   unfolding pairs_verdict
   pairs m code [] keys = says (left_in (λ answer. m)) (length keys + m) (Some true) (omega arith)
   pairs m code (signature ∷ signatures) [] = says (left_in (λ answer. m)) (0 + m) (Some false) (omega arith)
@@ -103,84 +102,84 @@ module _ (q : Question) where
       more left (suc (length keys + m)) (suc (length keys) + m) _ (omega arith)
       (chosen left (suc (length keys + m)) (ltb (length keys) (length signatures)) _ _ (says left (suc (length keys + m)) (Some false) (omega arith))
       (thens (λ answer. length keys + m) (λ answer. m) (suc (length keys + m)) _
-      (λ valid known. if valid then pairs_verdict known q code signatures keys else pairs_verdict known q code (signature ∷ signatures) keys) (pair (length keys + m) code signature key)
+      (λ valid known. if valid then pairs_verdict known r code signatures keys else pairs_verdict known r code (signature ∷ signatures) keys) (pair (length keys + m) code signature key)
       (λ valid. chosen left (length keys + m) valid _ _ (pairs m code signatures keys) (pairs m code (signature ∷ signatures) keys))))
 
-  sig : (s : State) (main : Stack) → AsksWithin (left_in room) (1 + room s) (λ known. after_sig known q s main)
+  sig : (s : State) (main : Stack) → AsksWithin (left_in room) (1 + room s) (λ known. after_sig known r s main)
   unfolding after_sig
   sig s [] = says (left_in room) (1 + room s) None (omega arith)
   sig s (key ∷ []) = says (left_in room) (1 + room s) None (omega arith)
   sig s (key ∷ signature ∷ rest) =
       maps (left_in (λ answer. room s)) (left_in room) (1 + room s) (option_map (λ valid. record s { main = truth_bytes valid ∷ rest })) _ by
-      (more (left_in (λ answer. room s)) (suc (room s)) (1 + room s) _ (omega arith) (pair (room s) (signed_code s.code (signature ∷ [])) signature key))
+      (more (left_in (λ answer. room s)) (suc (room s)) (1 + room s) _ (omega arith) (pair (room s) (code_with r.value s.code (signature ∷ [])) signature key))
     where
       by : (o : Option Bool) → left_in room (option_map (λ valid. record s { main = truth_bytes valid ∷ rest }) o) ≤ left_in (λ answer. room s) o
       by (Some valid) = omega arith
       by None = omega arith
 
-  taking : (s : State) (taken : Taken) → s.count + length taken.keys ≤ max_ops → AsksWithin (left_in room) (room s) (λ known. after_taking known q s taken)
+  taking : (s : State) (taken : Taken) → s.count + length taken.keys ≤ max_ops → AsksWithin (left_in room) (room s) (λ known. after_taking known r s taken)
   taking s taken few =
       let m = max_ops - (s.count + length taken.keys) in
       more (left_in room) (length taken.keys + m) (room s) _ (omega (arith, few))
-      (maps (left_in (λ answer. m)) (left_in room) (length taken.keys + m) (option_map (with_answer s taken)) _ by (pairs m (signed_code s.code taken.signatures) taken.signatures taken.keys))
+      (maps (left_in (λ answer. m)) (left_in room) (length taken.keys + m) (option_map (with_answer s taken)) _ by (pairs m (code_with r.value s.code taken.signatures) taken.signatures taken.keys))
     where
       by : (o : Option Bool) → left_in room (option_map (with_answer s taken) o) ≤ left_in (λ answer. max_ops - (s.count + length taken.keys)) o
       by (Some valid) = omega arith
       by None = omega arith
 
-  multisig : (s : State) → AsksWithin (left_in room) (room s) (λ known. after_multisig known q s)
+  multisig : (s : State) → AsksWithin (left_in room) (room s) (λ known. after_multisig known r s)
   unfolding after_multisig
   multisig s =
-      somes (left_in room) (room s) (multisig_of s) (λ taken known. after_taking known q s taken) (omega arith) (λ taken is. taking s taken (few-keys s taken is))
+      somes (left_in room) (room s) (multisig_of s) (λ taken known. after_taking known r s taken) (omega arith) (λ taken is. taking s taken (few-keys s taken is))
 
   -- ---- an opcode
-  test-within : (check : Check) (s : State) → AsksWithin (left_in room) (places check + room s) (λ known. after_test known q check s)
+  test-within : (check : Check) (s : State) → AsksWithin (left_in room) (places check + room s) (λ known. after_test known r check s)
   test-within (Of f) s = says (left_in room) (0 + room s) (on_main f s) (let h = main-keeps f s in omega (arith, h))
   test-within Sig s = sig s s.main
   test-within Multisig s =
       more (left_in room) (room s) (0 + room s) _ (omega arith)
-      (maps (left_in room) (left_in room) (room s) (option_and_then (after_dummy q.flags s)) _ (dummy-stays q.flags s) (multisig s))
+      (maps (left_in room) (left_in room) (room s) (option_and_then (after_dummy r.flags s)) _ (dummy-stays r.flags s) (multisig s))
 
   -- it does the same whatever is known
   done : (o : Option State) (s : State) → Stays s o → AsksWithin (left_in room) (0 + room s) (λ known. Says o)
   done o s stays = says (left_in room) (0 + room s) o (omega (arith, stays))
 
   executing-within : (after : List ℕ) (number : ℕ) (row : Row) (s : State) → IsOrderly number row
-      → AsksWithin (left_in room) (places_in row + room s) (λ known. after_executing known q after row s)
+      → AsksWithin (left_in room) (places_in row + room s) (λ known. after_executing known r after row s)
   executing-within after number (Does f) s orderly = done (f s) s (orderly s)
   executing-within after number (Controls f untaken) s orderly = done (f s) s (orderly.0 s)
   executing-within after number (Tests check) s orderly = test-within check s
   executing-within after number (AndVerifies check) s orderly =
       maps (left_in room) (left_in room) (places check + room s) (option_and_then (on_main verify)) _ verified-stays (test-within check s)
   executing-within after number Separates s orderly = done (Some record s { code = after }) s (omega arith)
-  executing-within after number (Asks in_force test) s orderly = done _ s (ask-keeps (in_force q.flags) (test q.tx q.input) s)
+  executing-within after number (Asks in_force test) s orderly = done _ s (ask-keeps (in_force r.flags) (test r.tx r.input) s)
 
   acting-within : (after : List ℕ) (number : ℕ) (row : Row) (s : State) → IsOrderly number row
-      → AsksWithin (left_in room) (places_in row + room s) (λ known. after_acting known q after row s)
+      → AsksWithin (left_in room) (places_in row + room s) (λ known. after_acting known r after row s)
   unfolding after_acting
   acting-within after number row s orderly =
       chosen (left_in room) (places_in row + room s) (is_executing s) _ _ (executing-within after number row s orderly)
       (says (left_in room) (places_in row + room s) (skipped row s) (let h = skipped-keeps number row orderly s in omega (arith, h)))
 
   counting-within : (after : List ℕ) (number : ℕ) (row : Row) (s : State) → IsOrderly number row
-      → AsksWithin (left_in room) (places_in row + room s) (λ known. after_counting known q after row s)
+      → AsksWithin (left_in room) (places_in row + room s) (λ known. after_counting known r after row s)
   counting-within after number row s orderly = maps (left_in room) (left_in room) (places_in row + room s) (option_and_then within_bounds) _ bounds-stay (acting-within after number row s orderly)
 
-  pub step-within : (after op : List ℕ) (s : State) → AsksWithin (left_in room) (room s) (λ known. step known q after op s)
+  pub step-within : (after op : List ℕ) (s : State) → AsksWithin (left_in room) (room s) (λ known. step known r after op s)
   unfolding step step_at
   step-within after [] s = says (left_in room) (room s) None (omega arith)
   step-within after (number ∷ bytes) s =
       let row = row_of (number ∷ bytes) in
-      somes (left_in room) (room s) (with_count number s) (λ counted known. after_counting known q after row counted) (omega arith)
+      somes (left_in room) (room s) (with_count number s) (λ counted known. after_counting known r after row counted) (omega arith)
       (λ counted is. more (left_in room) (places_in row + room counted) (room s) _ (counted-room number bytes s counted is) (counting-within after number row counted (row-orderly number bytes)))
 
   -- ---- an opcode up to 60
-  test-quiet : (number : ℕ) (check : Check) (s : State) → IsCounted number check → number ≤ 96 → IsQuiet (λ known. after_test known q check s)
+  test-quiet : (number : ℕ) (check : Check) (s : State) → IsCounted number check → number ≤ 96 → IsQuiet (λ known. after_test known r check s)
   test-quiet number (Of f) s counted low = (on_main f s, λ known. refl)
   test-quiet number Sig s counted low = absurd (omega (arith, counted, low))
   test-quiet number Multisig s counted low = absurd (omega (arith, counted, low))
 
-  executing-quiet : (after : List ℕ) (number : ℕ) (row : Row) (s : State) → IsOrderly number row → number ≤ 96 → IsQuiet (λ known. after_executing known q after row s)
+  executing-quiet : (after : List ℕ) (number : ℕ) (row : Row) (s : State) → IsOrderly number row → number ≤ 96 → IsQuiet (λ known. after_executing known r after row s)
   executing-quiet after number (Does f) s orderly low = (f s, λ known. refl)
   executing-quiet after number (Controls f untaken) s orderly low = (f s, λ known. refl)
   executing-quiet after number (Tests check) s orderly low = test-quiet number check s orderly low
@@ -188,18 +187,18 @@ module _ (q : Question) where
       let told = test-quiet number check s orderly low in
       (option_and_then (on_main verify) told.0, λ known. ap (answer_map (option_and_then (on_main verify))) (told.1 known))
   executing-quiet after number Separates s orderly low = (Some record s { code = after }, λ known. refl)
-  executing-quiet after number (Asks in_force test) s orderly low = (ask_if (in_force q.flags) (test q.tx q.input) s, λ known. refl)
+  executing-quiet after number (Asks in_force test) s orderly low = (ask_if (in_force r.flags) (test r.tx r.input) s, λ known. refl)
 
-  acting-quiet : (after : List ℕ) (number : ℕ) (row : Row) (s : State) → IsOrderly number row → number ≤ 96 → IsQuiet (λ known. after_acting known q after row s)
+  acting-quiet : (after : List ℕ) (number : ℕ) (row : Row) (s : State) → IsOrderly number row → number ≤ 96 → IsQuiet (λ known. after_acting known r after row s)
   unfolding after_acting
   acting-quiet after number row s orderly low = by (is_executing s) (executing-quiet after number row s orderly low)
     where
-      by : (b : Bool) → IsQuiet (λ known. after_executing known q after row s)
-          → IsQuiet (λ known. if b then after_executing known q after row s else Says (skipped row s))
+      by : (b : Bool) → IsQuiet (λ known. after_executing known r after row s)
+          → IsQuiet (λ known. if b then after_executing known r after row s else Says (skipped row s))
       by true told = told
       by false told = (skipped row s, λ known. refl)
 
-  pub step-quiet : (after : List ℕ) (number : ℕ) (bytes : List ℕ) (s : State) → number ≤ 96 → IsQuiet (λ known. step known q after (number ∷ bytes) s)
+  pub step-quiet : (after : List ℕ) (number : ℕ) (bytes : List ℕ) (s : State) → number ≤ 96 → IsQuiet (λ known. step known r after (number ∷ bytes) s)
   unfolding step step_at with_count
   step-quiet after number bytes s low =
       let told = acting-quiet after number (row_of (number ∷ bytes)) s (row-orderly number bytes) low in
