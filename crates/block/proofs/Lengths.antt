@@ -1,5 +1,5 @@
 -- The bytes of a spelling are those of its parts.
-use Rattle.std.proofs.Common.{◌≡◌, Bool, ℕ, ◌+◌, List, ◌++◌, length, length-append, sum_by, arith}
+use Rattle.std.proofs.Common.{◌≡◌, Bool, ◌+◌, ◌++◌, length, length-append, sum_by, arith}
 use Rattle.std.specs.List.{flat_map}
 use Rattle.std.proofs.lemmas.List.Concat.{length-flat_map}
 use Rattle.wire.specs.Numbers.{compact_size, i32le}

@@ -26,7 +26,9 @@ pub fn total_size(block: &Block) -> u64
 pub fn weight(block: &Block) -> u64
     ensures { result ≡ min (weight_of block.now) (2 ^ 64 - 1) }
 {
-    size(block).saturating_mul(3).saturating_add(total_size(block))
+    size(block)
+        .saturating_mul(3)
+        .saturating_add(total_size(block))
 }
 
 fn bytes(block: &Block, has_flag: bool) -> u64

@@ -137,7 +137,7 @@ fn hash_of_output(output: &TxOut) -> [u8; 32]
 fn feed_input_at(hasher: &mut Sha256, inputs: &[TxIn], n: usize, code: &[&[u8]], value: i64)
     ensures { (fed : List ℕ) → Holds256 hasher.old fed → Holds256 hasher.new
         (fed ++ option_map_or (signed_input (concat (bytes_of code.now)) value)
-            (slice_get inputs.now n) []) }
+        (slice_get inputs.now n) []) }
 {
     if let Some(input) = inputs.get(n) {
         feed_signed_input(hasher, input, code, value);
@@ -147,7 +147,7 @@ fn feed_input_at(hasher: &mut Sha256, inputs: &[TxIn], n: usize, code: &[&[u8]],
 fn feed_signed_input(hasher: &mut Sha256, input: &TxIn, code: &[&[u8]], value: i64)
     ensures { (fed : List ℕ) → Holds256 hasher.old fed
         → Holds256 hasher.new
-            (fed ++ signed_input (concat (bytes_of code.now)) value input.now) }
+        (fed ++ signed_input (concat (bytes_of code.now)) value input.now) }
 {
     feed_outpoint(hasher, &input.prev);
     feed_script(hasher, code);
