@@ -1,6 +1,5 @@
 -- What a running script looks at beside its stacks, and what its signatures sign (Bitcoin Core's `SigVersion`).
 use Rattle.std.specs.Prelude.{ℕ, ℤ, List, Option, Some, None}
-use Rattle.std.specs.Option.{option_map}
 use Rattle.txn.specs.Tx.{Tx}
 use Rattle.sighash.specs.Digest.{digest_of}
 use Rattle.sighash.specs.WitnessDigest.{witness_digest_of}
@@ -8,7 +7,6 @@ use Rattle.interp.specs.Stack.{Bytes}
 use Rattle.interp.specs.Question.{Question}
 use Rattle.interp.specs.Signatures.{signed_code}
 use Rattle.interp.specs.declared.flags.Flags.{Flags}
-use Rattle.interp.specs.declared.running.Running as code
 
 pub record Running : Type 0 where
   pub tx : Tx
@@ -30,10 +28,3 @@ digest_with (Some value) tx input code kind = witness_digest_of tx input code va
 abbrev pub code_with : Option ℤ → List ℕ → List Bytes → List ℕ
 code_with None code signatures = signed_code code signatures
 code_with (Some value) code signatures = code
-
--- of the code's
-abbrev pub value_of : code.Running → Option ℤ
-value_of r = option_map (λ w. w.1) r.witness
-
-abbrev pub running_of : code.Running → Running
-running_of r = record { tx = r.tx.now; input = r.input; flags = r.flags; value = value_of r }

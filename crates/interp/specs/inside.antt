@@ -2,3 +2,4 @@
 pub mod JobContext
 pub mod Outcomes
 pub mod Multisig
+pub mod RunningContext

@@ -2,7 +2,8 @@
 
 ghost use Rattle.std.specs.Prelude.{◌≡◌};
 ghost use Rattle.interp.specs.Question.{question_of};
-ghost use Rattle.interp.specs.Running.{base, running_of};
+ghost use Rattle.interp.specs.Running.{base};
+ghost use Rattle.interp.specs.inside.RunningContext.{running_of};
 
 use crate::job::Job;
 use crate::running::Running;

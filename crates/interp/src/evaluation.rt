@@ -3,7 +3,7 @@
 ghost use Rattle.std.specs.Prelude.{◌<◌, length};
 ghost use Rattle.interp.specs.Answer.{Tells};
 ghost use Rattle.interp.specs.Question.{question_of};
-ghost use Rattle.interp.specs.Running.{running_of};
+ghost use Rattle.interp.specs.inside.RunningContext.{running_of};
 ghost use Rattle.interp.specs.computed.NamedFailures.{eval_script, eval_running, eval_to_true, inner_named, on_left, verify_with_script, verify_script};
 
 use crate::base::base;

@@ -7,7 +7,7 @@ ghost use Rattle.interp.specs.Answer.{answer_map};
 ghost use Rattle.interp.specs.inside.Outcomes.{Goes, Leaves, GoesNamed, LeavesNamed};
 ghost use Rattle.interp.specs.inside.Multisig.{counts_of};
 ghost use Rattle.interp.specs.Running as model;
-ghost use Rattle.interp.specs.Running.{running_of};
+ghost use Rattle.interp.specs.inside.RunningContext.{running_of};
 ghost use Rattle.interp.specs.inside.Outcomes.{Gives};
 ghost use Rattle.interp.specs.State.{start, is_executing};
 ghost use Rattle.interp.specs.Timelocks.{locks_until, locks_for};
@@ -278,7 +278,8 @@ impl<'a> Execution<'a> {
     ) -> Result<bool, Unverified>
         requires { running.now.input < length running.now.tx.now.inputs }
         ensures { Goes result
-            (after_test (K.known known.now) (running_of running.now) (check_of by) self.old) self.new }
+            (after_test (K.known known.now) (running_of running.now) (check_of by) self.old)
+            self.new }
     {
         match by {
             Test::Equal => Ok(compare(alloc, &mut self.main)?),
@@ -297,7 +298,8 @@ impl<'a> Execution<'a> {
     ) -> Result<bool, Unverified>
         requires { running.now.input < length running.now.tx.now.inputs }
         ensures { Goes result (answer_map (option_and_then (on_main verify))
-            (after_test (K.known known.now) (running_of running.now) (check_of by) self.old)) self.new }
+            (after_test (K.known known.now) (running_of running.now) (check_of by) self.old))
+            self.new }
     {
         if !self.test(alloc, running, known, by)? {
             return Ok(false);

@@ -4,7 +4,8 @@ ghost use Rattle.std.specs.Prelude.{◌≡◌, ◌+◌, ◌-◌, ◌<◌, ◌≤
 ghost use Rattle.std.specs.List.{concat};
 ghost use Rattle.script.specs.Removal.{bytes_of};
 ghost use Rattle.interp.specs.Answer.{Tells};
-ghost use Rattle.interp.specs.Running.{digest_with, value_of, running_of};
+ghost use Rattle.interp.specs.Running.{digest_with};
+ghost use Rattle.interp.specs.inside.RunningContext.{value_of, running_of};
 ghost use Rattle.interp.specs.Signatures.{type_of};
 ghost use Rattle.interp.specs.computed.Signatures.{pairs_verdict};
 ghost use Rattle.interp.specs.inside.Multisig.{many, multisig_answer};
@@ -120,7 +121,8 @@ pub fn answer<K: KnowsSignatures>(
     requires few { counts.0 ≤ 20 }
     requires no_more { counts.1 ≤ counts.0 }
     requires there { counts.0 + counts.1 + 3 ≤ length stack.now }
-    ensures { Tells result (multisig_answer (K.known known.now) (running_of running.now) code.now stack.now counts) }
+    ensures { Tells result (multisig_answer (K.known known.now) (running_of running.now)
+        code.now stack.now counts) }
 {
     let (keys, signatures) = counts;
     let middle = keys + 2;

@@ -5,7 +5,8 @@ ghost use Rattle.std.specs.List.{concat};
 ghost use Rattle.script.specs.Removal.{bytes_of};
 ghost use Rattle.signatures.specs.Triple.{triple_of};
 ghost use Rattle.interp.specs.Answer.{Tells};
-ghost use Rattle.interp.specs.Running.{digest_with, code_with, value_of, running_of};
+ghost use Rattle.interp.specs.Running.{digest_with, code_with};
+ghost use Rattle.interp.specs.inside.RunningContext.{value_of, running_of};
 ghost use Rattle.interp.specs.Signatures.{push_of, pieces_of, signed_code, type_of, signature_proper};
 ghost use Rattle.interp.specs.computed.Signatures.{may_be_tried, verdict_or_wanted, pair_verdict};
 

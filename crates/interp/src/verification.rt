@@ -5,7 +5,7 @@ ghost use Rattle.script.specs.Ops.{ops, rest};
 ghost use Rattle.interp.specs.Answer.{Tells};
 ghost use Rattle.interp.specs.Question.{question_of};
 ghost use Rattle.interp.specs.Rules.{Accepts};
-ghost use Rattle.interp.specs.Running.{running_of};
+ghost use Rattle.interp.specs.inside.RunningContext.{running_of};
 ghost use Rattle.interp.specs.computed.Step.{outcome, ends_true, inner_verdict, verdict_on, verdict_with, verdict};
 
 use crate::base::base;

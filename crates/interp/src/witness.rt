@@ -5,7 +5,7 @@ ghost use Rattle.std.specs.List.{list_any};
 ghost use Rattle.std.specs.Option.{option_map_or};
 ghost use Rattle.interp.specs.Answer.{Tells};
 ghost use Rattle.interp.specs.Question.{question_of};
-ghost use Rattle.interp.specs.Running.{running_of};
+ghost use Rattle.interp.specs.inside.RunningContext.{running_of};
 ghost use Rattle.interp.specs.Witness.{version0, is_long, is_clean, execute, key_hash_script, key_hash_verdict, script_hash_verdict, verdict0, witness_with, witness_verdict};
 
 use crate::element::Element;

@@ -1,6 +1,6 @@
 use Rattle.std.proofs.Common.{◌≡◌, length}
 use Rattle.script.specs.Ops.{ops, rest}
-use Rattle.interp.specs.Running.{running_of}
+use Rattle.interp.specs.inside.RunningContext.{running_of}
 use Rattle.interp.specs.State.{start}
 use Rattle.interp.specs.computed.NamedFailures.{run_named}
 use Rattle.interp.proofs.evaluation.run_or_name.Given as goal

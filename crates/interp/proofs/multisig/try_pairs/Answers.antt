@@ -4,7 +4,8 @@ use Rattle.std.proofs.lemmas.Result.{err_from_is_err_and}
 use borrow.Author.Tests.{eqb-true}
 use Rattle.script.specs.Removal.{bytes_of}
 use Rattle.interp.specs.Answer.{Says}
-use Rattle.interp.specs.Running.{digest_with, value_of}
+use Rattle.interp.specs.Running.{digest_with}
+use Rattle.interp.specs.inside.RunningContext.{value_of}
 use Rattle.interp.specs.Signatures.{type_of}
 use Rattle.interp.proofs.Pairs.{some-there, turn-of, ended, used-up, few-left, unshaped, empty, wanted, valid, invalid}
 use Rattle.interp.proofs.multisig.try_pairs.Goals.{then-not-is_empty+in_ok-valid, then-valid, else-valid, else-not-is_empty}

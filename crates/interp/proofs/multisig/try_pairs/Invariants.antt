@@ -1,7 +1,8 @@
 use Rattle.std.proofs.Common.{◌≡◌, ◌≤◌, length, drop, IfSome}
 use Rattle.std.specs.List.{concat}
 use Rattle.script.specs.Removal.{bytes_of}
-use Rattle.interp.specs.Running.{digest_with, value_of, running_of}
+use Rattle.interp.specs.Running.{digest_with}
+use Rattle.interp.specs.inside.RunningContext.{value_of, running_of}
 use Rattle.interp.specs.Signatures.{type_of}
 use Rattle.interp.specs.Stack.{nth}
 use Rattle.interp.specs.computed.Signatures.{pairs_verdict}

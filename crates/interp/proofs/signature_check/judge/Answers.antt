@@ -3,7 +3,8 @@ use Rattle.std.specs.List.{concat}
 use Rattle.std.proofs.lemmas.Result.{err_from_is_err_and}
 use Rattle.script.specs.Removal.{bytes_of}
 use Rattle.interp.specs.Answer.{answer_map}
-use Rattle.interp.specs.Running.{digest_with, code_with, running_of}
+use Rattle.interp.specs.Running.{digest_with, code_with}
+use Rattle.interp.specs.inside.RunningContext.{running_of}
 use Rattle.interp.specs.Signatures.{type_of}
 use Rattle.interp.proofs.Pairs.{pair-asked, some-there}
 use Rattle.interp.proofs.signature_check.judge.Goals as goal

@@ -1,7 +1,7 @@
 use Rattle.std.proofs.Common.{◌∙◌, sym, ap}
 use Rattle.std.proofs.lemmas.Result.{err_from_is_err_and}
 use Rattle.interp.specs.Answer.{Says, answer_map}
-use Rattle.interp.specs.Running.{running_of}
+use Rattle.interp.specs.inside.RunningContext.{running_of}
 use Rattle.interp.specs.Stack.{Stack}
 use Rattle.interp.specs.Witness.{is_clean}
 use Rattle.interp.specs.computed.Step.{outcome}

@@ -1,5 +1,5 @@
 use Rattle.std.proofs.Common.{◌∙◌, ap, sym, subst}
-use Rattle.interp.specs.Running.{running_of}
+use Rattle.interp.specs.inside.RunningContext.{running_of}
 use Rattle.interp.specs.Row.{Row}
 use Rattle.interp.specs.inside.Outcomes.{GoesNamed}
 use Rattle.interp.specs.computed.OpcodeRow.{meaning}
