@@ -288,7 +288,7 @@ const WORKERS: Opt = Opt {
 const HEIGHTS: Opt = Opt {
     name: "heights",
     value: "A,B,C,D",
-    help: "From which heights the rules of BIP 34, 65, 66, and of BIPs 68, 112 and 113 are in force [default: 1,1,1,1]",
+    help: "From which heights the rules of BIP 34, 65, 66, and of BIPs 68, 112 and 113 are in force, and others by name, as 1,1,1,1,nulldummy@0 [default: 1,1,1,1]",
     ..FILE
 };
 

@@ -8,7 +8,7 @@ use crate::fault::RunFault;
 use crate::files::read_regular;
 use crate::report::Report;
 use journal::{RecordFault, blk_file};
-use rules::Params;
+use rules::{Deployment, Params};
 use signatures::Table;
 use std::alloc::{AllocError, Global};
 use std::fs::{File, OpenOptions, TryLockError};
@@ -230,7 +230,10 @@ fn files_of<'w>(
     })
 }
 
-/// The heights of soft forks, as a line that is read.
+/// Soft forks that a line of heights names.
+const NAMED: [Deployment; 1] = [Deployment::NullDummy];
+
+/// The heights of soft forks, as a line that is read ([`journal::read_heights`]).
 pub fn heights_line(alloc: Global, params: &Params) -> Result<String, AllocError> {
     let Params {
         bip34,
@@ -239,7 +242,15 @@ pub fn heights_line(alloc: Global, params: &Params) -> Result<String, AllocError
         csv,
         ..
     } = params;
-    format!(in alloc; "{bip34},{bip65},{bip66},{csv}\n")
+    let mut line = format!(in alloc; "{bip34},{bip65},{bip66},{csv}")?;
+    for deployment in NAMED {
+        if let Some(height) = params.height(deployment) {
+            let name = deployment.name();
+            line.push_str(format!(in alloc; ",{name}@{height}")?.as_str())?;
+        }
+    }
+    line.push('\n')?;
+    Ok(line)
 }
 
 /// The blk file of the blocks that were submitted.

@@ -1,4 +1,6 @@
-pub mod Commas
+pub mod Parts
 pub mod Given
 pub mod ReadLines
+pub mod Sets
+pub mod Spelled
 pub mod Texts

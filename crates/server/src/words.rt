@@ -44,14 +44,15 @@ impl Facts<'_> {
             × (result.loaded ≡ self.now.loaded) }
         ensures heights { let params = self.now.params in
             (result.bip34 ≡ params.bip34) × (result.bip65 ≡ params.bip65)
-            × (result.bip66 ≡ params.bip66) × (result.csv ≡ params.csv) }
+            × (result.bip66 ≡ params.bip66) × (result.csv ≡ params.csv)
+            × (result.nulldummy ≡ params.nulldummy) }
     {
         let Params {
             bip34,
             bip65,
             bip66,
             csv,
-            ..
+            nulldummy,
         } = self.params;
         Info {
             program: NAME,
@@ -62,6 +63,7 @@ impl Facts<'_> {
             bip65,
             bip66,
             csv,
+            nulldummy,
             loaded: self.loaded as u64,
         }
     }

@@ -5,11 +5,11 @@ use Rattle.std.proofs.Common.{◌≡◌, refl, sym, ap, ◌∙◌}
 use Rattle.std.proofs.lemmas.List.{append_assoc, append-nil}
 use Rattle.json.specs.Json.{Members, no_members}
 use Rattle.json.specs.Token.{Token}
-use Rattle.json.specs.Tree.{items_tokens}
+use Rattle.json.specs.Tree.{items_tokens, members_tokens}
 use Rattle.json.specs.Written.{Written}
 use Rattle.signatures.specs.Triple.{Triple}
 use Rattle.tree.specs.declared.tip.Tip.{Tip}
-use Rattle.serving.specs.Answers.{Adds, members, now_of, coin_items, line_items, spent_items, tip_items, step_items}
+use Rattle.serving.specs.Answers.{Adds, members, now_of, height_if, coin_items, line_items, spent_items, tip_items, step_items}
 use Rattle.serving.specs.declared.answer.CoinAt.{CoinAt}
 use Rattle.serving.specs.declared.answer.SpentCoin.{SpentCoin}
 use Rattle.serving.specs.declared.answer.Step.{Step}
@@ -27,6 +27,11 @@ then {r = Err e} h k = record { before = k.before; tokens = k.tokens }
 pub behind_moment : (moment : Option ℕ) (rest : Members) → members (now_of moment no_members) ++ members rest ≡ members (now_of moment rest)
 behind_moment None rest = refl
 behind_moment (Some moment) rest = refl
+
+-- a height that may be there is the last member
+pub height_closed : (name : List ℕ) (height : Option ℕ) → members (height_if name height no_members) ++ Token.end_object ∷ [] ≡ members_tokens (height_if name height no_members)
+height_closed name None = refl
+height_closed name (Some height) = refl
 
 -- the tokens of lists, with the closing bracket
 all_tips : (tips : List Tip) → flat_map tip_tokens tips ++ Token.end_array ∷ [] ≡ items_tokens (tip_items tips)

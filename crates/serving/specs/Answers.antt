@@ -223,10 +223,15 @@ abbrev pub refusal_members : Refusal → Members
 refusal_members r = member (codes "code") (number (signed_decimal (neg_ℤ (pos (code_of r)))))
     (text (codes "message") (name_of r) (about r))
 
+-- a soft fork's height, where it has one
+abbrev pub height_if : List ℕ → Option ℕ → Members → Members
+height_if name None rest = rest
+height_if name (Some height) rest = count name height rest
+
 -- how a node was opened
 unfoldable pub info_members : Info → Members
 info_members i = text (codes "program") i.program.now (text (codes "version") i.version.now
     (count (codes "seats") i.seats (count (codes "workers") i.workers
     (member (codes "heights") (object (count (codes "bip34") i.bip34 (count (codes "bip65") i.bip65
-    (count (codes "bip66") i.bip66 (count (codes "csv") i.csv no_members)))))
+    (count (codes "bip66") i.bip66 (count (codes "csv") i.csv (height_if (codes "nulldummy") i.nulldummy no_members))))))
     (count (codes "loaded") i.loaded no_members)))))

@@ -6,7 +6,7 @@ ghost use Rattle.json.specs.Token.{key, string, boolean};
 ghost use Rattle.std.specs.List.{flat_map};
 ghost use Rattle.hex.specs.Hex.{encode_lower};
 ghost use Rattle.json.specs.Json.{no_members};
-ghost use Rattle.serving.specs.Answers.{Adds, answer_members, coin_members, header_members, spent_list_members, spent_members, tip_members, output_members, step_members, info_members, members, now_of, status_name, wants_members, contradicted_members};
+ghost use Rattle.serving.specs.Answers.{Adds, answer_members, coin_members, header_members, spent_list_members, spent_members, tip_members, output_members, step_members, info_members, members, now_of, status_name, wants_members, contradicted_members, height_if};
 ghost use Rattle.serving.specs.inside.Front.{coin_tokens, line_tokens, spent_tokens, tip_tokens, step_tokens};
 
 use crate::object::Object;
@@ -100,7 +100,8 @@ pub struct Step<'a> {
     pub reply: &'a str,
 }
 
-/// How a node was opened. The heights are of BIP 34, BIP 65, BIP 66, and of BIPs 68, 112 and 113.
+/// How a node was opened. The heights are of BIP 34, BIP 65, BIP 66, of BIPs 68, 112 and 113, and of BIP 147, if it has
+/// one.
 #[derive(Clone, Copy)]
 pub struct Info<'a> {
     pub program: &'a str,
@@ -111,6 +112,7 @@ pub struct Info<'a> {
     pub bip65: u32,
     pub bip66: u32,
     pub csv: u32,
+    pub nulldummy: Option<u32>,
     /// How many entries a folder had that was loaded.
     pub loaded: u64,
 }
@@ -378,6 +380,16 @@ impl Object {
         self.text(name, hex::encode(alloc, bytes)?.as_str())
     }
 
+    /// A soft fork's height, where it has one.
+    fn height_if(&mut self, name: &str, height: Option<u32>) -> Result<(), AllocError>
+        ensures { Adds result self.old self.new (members (height_if name.now height no_members)) }
+    {
+        match height {
+            Some(height) => self.number(name, u64::from(height)),
+            None => Ok(()),
+        }
+    }
+
     /// The members that say how a node was opened.
     pub(crate) fn info(&mut self, info: &Info<'_>) -> Result<(), AllocError>
         ensures { Adds result self.old self.new (members (info_members info.now)) }
@@ -391,6 +403,7 @@ impl Object {
         self.number("bip65", u64::from(info.bip65))?;
         self.number("bip66", u64::from(info.bip66))?;
         self.number("csv", u64::from(info.csv))?;
+        self.height_if("nulldummy", info.nulldummy)?;
         self.end()?;
         self.number("loaded", info.loaded)
     }
