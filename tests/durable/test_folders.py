@@ -61,6 +61,8 @@ class Folders(KeepingTest):
         self.assertEqual(self.serve(b"").returncode, 0)
         ended = self.serve(b"", "--heights", "1,2,3,5")
         self.assertEqual((ended.returncode, ended.stderr.splitlines()[0]), (1, b"regchain: cannot read data/heights.txt"))
+        ended = self.serve(b"", "--heights", "1,2,3,4,nulldummy@0")
+        self.assertEqual((ended.returncode, ended.stderr.splitlines()[0]), (1, b"regchain: cannot read data/heights.txt"))
         self.write("table", "aa 3006020101020101 " + "0" * 64 + "\n")
         ended = self.serve(b"", "--table", "table")
         self.assertEqual((ended.returncode, ended.stderr.splitlines()[0]), (1, b"regchain: cannot read data/table.txt"))

@@ -85,7 +85,7 @@ Options:
       --table <F>          The signatures that are valid
       --workers <N>        At most so many threads check scripts, 1 to 16 [default: 2]
       --heights <A,B,C,D>  From which heights the rules of BIP 34, 65, 66, and of BIPs \
-68, 112 and 113 are in force [default: 1,1,1,1]
+68, 112 and 113 are in force, and others by name, as 1,1,1,1,nulldummy@0 [default: 1,1,1,1]
       --save <D>           The folder for journal.txt, blocks.blk, table.txt and heights.txt
       --expect <F>         The output that it has to have
       --json               Writes a JSON object a line
@@ -113,7 +113,7 @@ Options:
       --blk <F>            Its blocks.blk
       --table <F>          The signatures that are valid
       --heights <A,B,C,D>  From which heights the rules of BIP 34, 65, 66, and of BIPs \
-68, 112 and 113 are in force [default: 1,1,1,1]
+68, 112 and 113 are in force, and others by name, as 1,1,1,1,nulldummy@0 [default: 1,1,1,1]
       --quick              By the chainstate of one thread in place of the definition
       --explain            Tells the reply that the first line which differs should have
       --to <N>             Looks at the first N lines
@@ -134,7 +134,7 @@ Options:
       --blk <F>            Blocks that are submitted first, as a blk file of Bitcoin Core has them
       --table <F>          The signatures that are valid
       --heights <A,B,C,D>  From which heights the rules of BIP 34, 65, 66, and of BIPs \
-68, 112 and 113 are in force [default: 1,1,1,1]
+68, 112 and 113 are in force, and others by name, as 1,1,1,1,nulldummy@0 [default: 1,1,1,1]
       --svg <F>            The file for a picture of the block tree
       --from <HEIGHT>      The block tree from this height on
       --last <N>           The last N heights of the block tree
@@ -169,8 +169,8 @@ Usage: regchain serve [OPTIONS]
 Options:
       --seats <N>            How many callers the node has places for, 1 to 16 [default: 4]
       --workers <N>          At most so many threads check scripts, 1 to 16 [default: 2]
-      --heights <A,B,C,D>    From which heights the rules of BIP 34, 65, 66, and of BIPs 68, 112 and 113 are in force \
-[default: 1,1,1,1]
+      --heights <A,B,C,D>    From which heights the rules of BIP 34, 65, 66, and of BIPs 68, 112 and 113 are in force, \
+and others by name, as 1,1,1,1,nulldummy@0 [default: 1,1,1,1]
       --table <F>            The signatures that are valid
       --blk <F>              Blocks that are submitted first, as a blk file of Bitcoin Core has them
       --load <D>             The folder of an earlier --save, which is played again first, with its table and heights

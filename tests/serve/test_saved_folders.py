@@ -71,6 +71,16 @@ class Folders(ProgramTest):
         self.assertEqual(after[2:], before[2:])
         self.expect_agrees("saved")
 
+    def test_a_fork_by_name(self) -> None:
+        """A soft fork that is set by name: in `info`, in the folder by its own name, and again when that is loaded."""
+        told = {"bip34": 1, "bip65": 2, "bip66": 3, "csv": 4, "nulldummy": 5}
+        for words in (["--heights", "1,2,3,4,bip147@5"], ["--load", "saved"]):
+            served = Served(self.folder, *words, "--save", "saved")
+            self.addCleanup(served.kill)
+            self.assertEqual(served.ask("info")["heights"], told)
+            self.assertEqual(served.end(), (0, ""))
+            self.assertEqual(self.read("saved/heights.txt"), "1,2,3,4,nulldummy@5\n")
+
     def test_it_is_killed_between(self) -> None:
         """A node that loads a folder to save there, and is killed: the folder is as it was, and is loaded again."""
         self.save_two()
