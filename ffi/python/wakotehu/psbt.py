@@ -50,7 +50,7 @@ class Previous(NamedTuple):
 
     def output(self, index: int) -> Optional[Output]:
         """The output of a number, or None."""
-        outputs = read_transaction(self.stripped).outputs
+        index, outputs = arguments.number(index, "index"), read_transaction(self.stripped).outputs
         return outputs[index] if index < len(outputs) else None
 
 
@@ -98,8 +98,16 @@ class Psbt:
 
     def spent(self, place: int) -> Optional[Output]:
         """The output that an input spends, where it is known (Bitcoin Core's `GetInputUTXO`)."""
-        own = self.inputs[place]
+        own = self.inputs[place_of(place, len(self.inputs))]
         return own.witness_utxo if own.non_witness_utxo is None else own.non_witness_utxo.output(self.tx.inputs[place].index)
+
+
+def place_of(place: int, count: int) -> int:
+    """A place below a count."""
+    found = arguments.number(place, "place", 64)
+    if found >= count:
+        raise ValueError(f"place must be below {count}")
+    return found
 
 
 def blank(tx: Transaction) -> Psbt:

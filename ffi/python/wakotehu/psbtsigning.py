@@ -6,10 +6,10 @@ from functools import cached_property
 from typing import Callable, List, Mapping, NamedTuple, Optional, Tuple, Union
 
 from . import consensus
-from .arguments import instance
+from .arguments import flag, instance, kind_of as kind_name, number
 from .consensus import Triple
 from .encoding import Output, Transaction, double_sha, hash160, push, write_transaction
-from .psbt import Psbt, PsbtError, PsbtInput, PsbtOutput, prefixed, previous_of, secp, written
+from .psbt import Psbt, PsbtError, PsbtInput, PsbtOutput, place_of, prefixed, previous_of, secp, written
 from .rpc.scripts import MAX_SCRIPT, compact, kind_of, script_keys
 from .rpc.values import MAX_MONEY
 from .signatures import Secp256k1, read_signature
@@ -46,17 +46,17 @@ class Satisfied(NamedTuple):
     is_whole: bool
 
 
-def satisfy(code: bytes, signature: Callable[[bytes], bytes], key_of: Callable[[bytes], Optional[bytes]]) -> Satisfied:
+def satisfy(code: bytes, signature: Callable[[bytes], Optional[bytes]], key_of: Callable[[bytes], Optional[bytes]]) -> Satisfied:
     """The signatures, and keys, that a script to one key, its hash, or several keys asks for (Bitcoin Core's `SignStep`), by what gives a
-    key's signature, or nothing, and a hash's key. Of several keys each is asked, so that all signatures are known behind it."""
+    key's signature, or None, and a hash's key. Of several keys each is asked, so that all signatures are known behind it."""
     kind, needed, _ = kind_of(code)
     if kind == "pubkeyhash":
         key = key_of(code[3:23])
-        made = b"" if key is None else signature(key)
-        return Satisfied([made, key], True) if key is not None and made else Satisfied([], False)
+        made = None if key is None else signature(key)
+        return Satisfied([], False) if key is None or made is None else Satisfied([made, key], True)
     if kind not in ("pubkey", "multisig"):
         return Satisfied([], False)
-    found = [it for it in map(signature, script_keys(code)) if it][:needed]
+    found = [it for it in map(signature, script_keys(code)) if it is not None][:needed]
     if kind == "pubkey":
         return Satisfied(found, bool(found))
     # What stands for a signature that isn't there is empty, and so is what CHECKMULTISIG takes besides.
@@ -135,7 +135,8 @@ class Signer:
     """
 
     def __init__(self, psbt: Psbt, means: Optional[Means] = None, kind: int = 1, is_dummy: bool = False) -> None:
-        self.psbt, self.means, self.kind, self.is_dummy = psbt, means or Means(), kind, is_dummy
+        self.psbt, self.means = instance(psbt, Psbt, "psbt"), Means() if means is None else instance(means, Means, "means")
+        self.kind, self.is_dummy = number(kind, "kind", 8), flag(is_dummy, "is_dummy")
         self.secp = secp()
         #: The transaction's bytes: no input has a script.
         self.data = write_transaction(psbt.tx)
@@ -143,7 +144,7 @@ class Signer:
 
     def sign(self, place: int) -> Signed:
         """Adds what can be made for an input (Bitcoin Core's `SignPSBTInput`)."""
-        own, spent = self.psbt.inputs[place], self.psbt.spent(place)
+        spent, own = self.psbt.spent(place), self.psbt.inputs[place]
         if own.is_final:
             return Signed(True, Lacks())
         if spent is None:
@@ -159,6 +160,7 @@ class Signer:
 
     def describe(self, place: int) -> None:
         """Adds the scripts and origins of keys of an output (Bitcoin Core's `UpdatePSBTOutput`)."""
+        place = place_of(place, len(self.psbt.outputs))
         own, paid = self.psbt.outputs[place], self.psbt.tx.outputs[place]
         made = _Production(self, 0, paid, own) if self.psbt.inputs else None
         if made is not None:
@@ -238,26 +240,26 @@ class _Production:
             self.lacks.keys.append(digest)
         return known
 
-    def _signature(self, key: bytes, code: bytes, is_witness: bool) -> bytes:
-        """The signature by a key, as it is known or can be made, else empty."""
+    def _signature(self, key: bytes, code: bytes, is_witness: bool) -> Optional[bytes]:
+        """The signature by a key, as it is known or can be made."""
         if key in self.signatures:
             return self.signatures[key]
         origin = self.signer.means.origins.get(key)
         if origin is not None:
             self.origins.setdefault(key, origin)
         made = self._made(key, code, is_witness)
-        if made:
-            self.signatures[key] = made
-        else:
+        if made is None:
             self.lacks.signatures.append(hash160(key))
+        else:
+            self.signatures[key] = made
         return made
 
-    def _made(self, key: bytes, code: bytes, is_witness: bool) -> bytes:
+    def _made(self, key: bytes, code: bytes, is_witness: bool) -> Optional[bytes]:
         if self.signer.is_dummy:
             return _DUMMY
         secret = self.signer.means.secrets.get(key)
         if secret is None or (is_witness and (len(key) != 33 or not 0 <= self.spent.value <= MAX_MONEY)):
-            return b""
+            return None
         kind = self.signer.kind
         return self.signer.secp.sign_short(secret, self._digest(code, kind, is_witness)) + bytes([kind])
 
@@ -289,6 +291,8 @@ class _Production:
     def _is_strict(self, key: bytes, signature: bytes) -> bool:
         if len(key) == 65 and (self.is_witness or key[0] != 4):
             return False
+        if not signature:
+            return self.signer.is_dummy
         numbers = read_signature(signature[:-1])
         if numbers is None or not consensus.strict_signature(signature):
             return False
@@ -341,6 +345,9 @@ def fill(
     kind: the hash type of signatures; one that an input names and that isn't this raises `HashTypeMismatch`.
     signs: whether it signs; tells_origins: whether it adds the origins of keys.
     """
+    signs, tells_origins, means = flag(signs, "signs"), flag(tells_origins, "tells_origins"), instance(means, Means, "means")
+    if not callable(previous):
+        raise TypeError(f"previous must be a function, not {kind_name(previous)}")
     means = Means(means.secrets if signs else {}, means.keys, means.scripts, means.origins if tells_origins else {})
     signer = Signer(psbt, means, kind)
     for place, (spends, own) in enumerate(zip(psbt.tx.inputs, psbt.inputs)):
@@ -352,7 +359,7 @@ def fill(
         if signs and own.sighash > 0 and own.sighash != kind:
             raise HashTypeMismatch("Specified sighash value does not match value stored in PSBT")
         if own.non_witness_utxo is not None and psbt.spent(place) is None:
-            raise MissingOutput("Missing inputs")
+            raise MissingOutput("Inputs missing or spent")
         signer.sign(place)
     signer = Signer(psbt, means.public, kind)
     for place in range(len(psbt.outputs)):

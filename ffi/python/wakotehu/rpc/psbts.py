@@ -2,7 +2,7 @@
 
 import re
 import secrets
-from typing import Any, Dict, List, Mapping, NamedTuple, Optional, Protocol, Tuple, Union
+from typing import Any, Callable, Dict, List, Mapping, NamedTuple, Optional, Protocol, Tuple, Union
 
 from .. import consensus
 from ..chainstate import Coin
@@ -11,7 +11,7 @@ from ..psbt import (
     Mismatch, Previous, Psbt, PsbtError, PsbtInput, PsbtOutput, Unreadable, blank, combine, extract, from_base64, join, previous_of,
     to_base64,
 )  # fmt: skip
-from ..psbtsigning import HashTypeMismatch, Lacks, Means, MissingOutput, Signer, fill, finalize
+from ..psbtsigning import HashTypeMismatch, Lacks, Means, MissingOutput, Signed, Signer, fill
 from .blockchain import scanned_scripts
 from .descriptors import read_descriptor
 from .errors import DESERIALIZATION_ERROR, INVALID_PARAMETER, MISC_ERROR, TRANSACTION_ERROR, RpcError
@@ -229,7 +229,7 @@ def finalizepsbt(node: Node, psbt: Any, extracts: Any) -> Object:
         expect_or_null(value, kind)
     with node.others():
         found = _read(psbt)
-        complete = finalize(found)
+        complete = all([it.is_complete for it in _signed(node, Signer(found))])
         if complete and extracts is not False:
             return {"hex": extract(found).hex(), "complete": True}
         return {"psbt": to_base64(found), "complete": complete}
@@ -337,23 +337,23 @@ def analyzepsbt(node: Node, psbt: Any) -> Object:
     with node.others():
         found = _read(psbt)
         try:
-            return _analysed(found)
+            return _analysed(node, found)
         except _Faulty as error:
             return {"next": ROLES[_CREATOR], "error": f"PSBT is not valid. {error}"}
 
 
-def _analysed(psbt: Psbt) -> Object:
+def _analysed(node: Node, psbt: Psbt) -> Object:
     spent = _outputs(psbt)
-    signer, own = Signer(psbt), []
-    for place, output in enumerate(spent):
-        own.append(_analysed_input(signer, place, output))
+    before = [it.is_final for it in psbt.inputs]
+    signed = _signed(node, Signer(psbt))
+    own = [_analysed_input(*it) for it in zip(spent, before, signed)]
     found: Object = {"inputs": [it.fields for it in own]} if own else {}
     if all(it is not None for it in spent):
         out = _sum([it.value for it in psbt.tx.outputs])
         if out is None:
             raise _Faulty("Output amount invalid")
         fee = sum(it.value for it in spent if it is not None) - out
-        size = _size(psbt)
+        size = _size(node, psbt)
         if size is not None:
             found.update(estimated_vsize=size, estimated_feerate=Amount(_rate(fee, size)))
         found["fee"] = Amount(fee)
@@ -383,22 +383,30 @@ def _outputs(psbt: Psbt) -> List[Optional[Output]]:
     return found
 
 
-def _analysed_input(signer: Signer, place: int, output: Optional[Output]) -> _Analysed:
+def _signed(node: Node, signer: Signer) -> List[Signed]:
+    """What each input has and lacks. Each costs what the whole transaction's digest does; the server may end meanwhile."""
+    found = []
+    for place in range(len(signer.psbt.inputs)):
+        node.expect_running()
+        found.append(signer.sign(place))
+    return found
+
+
+def _analysed_input(output: Optional[Output], was_final: bool, signed: Signed) -> _Analysed:
     if output is None:
         return _Analysed(False, False, _UPDATER, Lacks())
-    if signer.psbt.inputs[place].is_final:
+    if was_final:
         return _Analysed(True, True, _EXTRACTOR, Lacks())
-    is_complete, lacks = signer.sign(place)
-    if is_complete:
+    if signed.is_complete:
         return _Analysed(True, False, _FINALIZER, Lacks())
+    lacks = signed.lacks
     only_signatures = lacks.signatures and not (lacks.keys or lacks.redeem_script or lacks.witness_script)
     return _Analysed(True, False, _SIGNER if only_signatures else _UPDATER, lacks)
 
 
-def _size(psbt: Psbt) -> Optional[int]:
+def _size(node: Node, psbt: Psbt) -> Optional[int]:
     """The size by which the fee of the transaction would be compared, where all that its inputs need is known but signatures."""
-    signer = Signer(psbt, is_dummy=True)
-    if not all(signer.sign(place).is_complete for place in range(len(psbt.inputs))):
+    if not all([it.is_complete for it in _signed(node, Signer(psbt, is_dummy=True))]):
         return None
     data = extract(psbt)
     stripped = previous_of(data).stripped if psbt.inputs else data
@@ -430,7 +438,7 @@ class Funded(NamedTuple):
 
 
 class PsbtWallet(Protocol):
-    """What a wallet gives."""
+    """What a wallet gives. It is asked without the turn."""
 
     def means(self, psbt: Psbt) -> Means:
         """Its keys and scripts, those of this one's inputs and outputs at least."""
@@ -443,22 +451,34 @@ class PsbtWallet(Protocol):
         options say otherwise."""
 
 
-def process(wallet: PsbtWallet, node: Node, psbt: Any, sign: Any, sighashtype: Any, bip32derivs: Any) -> Object:
-    """walletprocesspsbt."""
-    expect(psbt, "string")
+def register(wallet_of: Callable[[Node], PsbtWallet]) -> None:
+    """Puts the calls of wallets into the table."""
+
+    @call("Wallet", "psbt", "sign", "sighashtype", "bip32derivs", needed=1, types=("string", "bool", "string"))
+    def walletprocesspsbt(node: Node, psbt: Any, sign: Any, sighashtype: Any, bip32derivs: Any) -> Object:
+        """Adds what the wallet knows to a partially signed transaction, and signs it."""
+        wallet = wallet_of(node)
+        with node.others():
+            return _processed(wallet, psbt, sign, sighashtype, bip32derivs)
+
+    @call("Wallet", "inputs", "outputs", "locktime", "options", "bip32derivs", needed=2)
+    def walletcreatefundedpsbt(node: Node, inputs: Any, outputs: Any, locktime: Any, options: Any, bip32derivs: Any) -> Object:
+        """A partially signed transaction to which the wallet adds inputs and change."""
+        wallet = wallet_of(node)
+        with node.others():
+            return _funded(wallet, inputs, outputs, locktime, options, bip32derivs)
+
+
+def _processed(wallet: PsbtWallet, psbt: Any, sign: Any, sighashtype: Any, bip32derivs: Any) -> Object:
     found = _read(psbt)
     kind = "ALL" if sighashtype is None else text(sighashtype)
     if kind not in HASH_TYPES:
         raise RpcError(MISC_ERROR, f"{kind[:100]} is not a valid sighash parameter.")
-    signs = True if sign is None else boolean(sign)
-    complete = _fill(wallet, found, HASH_TYPES[kind], signs, bip32derivs)
+    complete = _fill(wallet, found, HASH_TYPES[kind], sign is not False, bip32derivs)
     return {"psbt": to_base64(found), "complete": complete}
 
 
-def create_funded(
-    wallet: PsbtWallet, node: Node, inputs: Any, outputs: Any, locktime: Any, options: Any, bip32derivs: Any
-) -> Object:
-    """walletcreatefundedpsbt."""
+def _funded(wallet: PsbtWallet, inputs: Any, outputs: Any, locktime: Any, options: Any, bip32derivs: Any) -> Object:
     for value, kind in ((inputs, "array"), (locktime, "number"), (options, "object"), (bip32derivs, "bool")):
         expect_or_null(value, kind)
     given = object_of(options or {})

@@ -223,7 +223,7 @@ class _Signer:
 
     def _step(self, code: bytes) -> List[bytes]:
         """The signatures, and keys, that a script asks for; none where one of them can't be made."""
-        return satisfy(code, lambda key: self._signature(key, code), self._key_of).items
+        return satisfy(code, lambda key: self._signature(key, code) or None, self._key_of).items
 
     def _key_of(self, hash: bytes) -> Optional[bytes]:
         """The key of a hash."""
