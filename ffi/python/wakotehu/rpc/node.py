@@ -51,6 +51,8 @@ class Node:
         self.publisher: Optional["Publisher"] = None
         #: The private keys of the addresses that were given, by the hashes of their keys.
         self.keys: Dict[bytes, bytes] = {}
+        #: What `setnetworkactive` said last.
+        self.is_network_active = True
         #: The categories of the log that are on.
         self.logged: Set[str] = set()
         #: The calls that run, by their threads: the name, and when they began.
