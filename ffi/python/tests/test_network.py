@@ -8,9 +8,9 @@ from servers import Running
 
 CALLS = (
     ["getaddednodeinfo"], ["getaddednodeinfo", "x"], ["getaddednodeinfo", 5], ["getaddednodeinfo", None], ["getnodeaddresses"],
-    ["getnodeaddresses", -1], ["getnodeaddresses", 0], ["getnodeaddresses", "x"], ["listbanned"], ["clearbanned"], ["getpeerinfo"],
-    ["getconnectioncount"], ["ping"], ["getnetworkinfo"], ["setnetworkactive", False], ["getnetworkinfo"], ["setnetworkactive", True],
-    ["getnetworkinfo"], ["setnetworkactive", 5], ["setnetworkactive", None], ["disconnectnode", "x"], ["disconnectnode", "", 5],
+    ["getnodeaddresses", -1], ["getnodeaddresses", 0], ["getnodeaddresses", "x"], ["listbanned"], ["clearbanned"],
+    ["getpeerinfo"], ["getconnectioncount"], ["ping"], ["getnetworkinfo"], ["setnetworkactive", False], ["getnetworkinfo"],
+    ["setnetworkactive", True], ["getnetworkinfo"], ["setnetworkactive", 5], ["setnetworkactive", None], ["disconnectnode", "x"], ["disconnectnode", "", 5],
     ["disconnectnode", "x", 5], ["disconnectnode"],
 )  # fmt: skip
 #: What tells which program it is.

@@ -87,7 +87,7 @@ class AtSeats(test_pool.Waiting):
 
 class OthersTest(AtSeats):
     def test_threads_step_meanwhile(self):
-        """Blocks of other threads, some with what waits, some that leave: nothing waits in the end that a block has, and all else does."""
+        """Blocks of other threads, some with what waits, some that leave: in the end what no active block has waits, and no more."""
         txs = [spends(coin) for coin in self.coins[:10]]
 
         def step(number):
@@ -122,6 +122,9 @@ class OthersTest(AtSeats):
         self.assertEqual((len(self.pool), len(other)), (1, 1))
 
 
+CASES = (
+    test_pool.RulesTest, test_pool.ReplacedTest, test_pool.ChosenTest, test_pool.BranchTest, test_pool.ForksTest, test_pool.GraphTest,
+)  # fmt: skip
 #: Those that copy a bench.
 ONLY_OF_BENCHES = {"test_several_pools_and_copies"}
 
@@ -129,9 +132,10 @@ ONLY_OF_BENCHES = {"test_several_pools_and_copies"}
 def over(kind, name):
     """The cases of `Pool` over a `Bench` with another `setUp`."""
     found = {}
-    for case in (test_pool.RulesTest, test_pool.ReplacedTest, test_pool.ChosenTest, test_pool.BranchTest, test_pool.ForksTest, test_pool.GraphTest):
+    for case in CASES:
         own = {it: None for it in ONLY_OF_BENCHES if it in vars(case)}
-        found[f"{case.__name__}{name}"] = type(f"{case.__name__}{name}", (case,), {**own, "setUp": kind.setUp, "pooled": kind.pooled, "opened": staticmethod(kind.opened)})
+        own.update(setUp=kind.setUp, pooled=kind.pooled, opened=staticmethod(kind.opened))
+        found[case.__name__ + name] = type(case.__name__ + name, (case,), own)
     return found
 
 

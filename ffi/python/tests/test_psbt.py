@@ -21,7 +21,8 @@ from wakotehu.rpc.node import CALLS
 from wakotehu.signatures import Secp256k1
 
 SECP = Secp256k1()
-#: BIP 174's vectors: what a creator, an updater and a finalizer make, the transaction, and one whose coin's transaction has witnesses.
+#: BIP 174's vectors: what a creator, an updater and a finalizer make, the transaction, and one whose coin's transaction has
+#: witnesses.
 CREATED = (
     "cHNidP8BAJoCAAAAAljoeiG1ba8MI76OcHBFbDNvfLqlyHV5JPVFiHuyq911AAAAAAD/////g40EJ9DsZQpoqka7CwmK6kQiwHGyyng1Kgd5WdB86h0BAAAAAP//"
     "//8CcKrwCAAAAAAWABTYXCtx0AYLCcmIauuBXlCZHdoSTQDh9QUAAAAAFgAUAK6pouXw+HaliN9VRuh0LR2HAI8AAAAAAAAAAAA="
@@ -117,7 +118,8 @@ def refused():
     yield "a transaction", raw, "Invalid PSBT magic bytes"
     yield "nothing", b"", "CDataStream::read(): end of data"
     yield "outputs left out", spelled(outputs=()), "Outputs provided does not match the number of outputs in transaction."
-    yield "inputs left out", psbt.MAGIC + field(b"\0", raw) + b"\0", "Inputs provided does not match the number of inputs in transaction."
+    missing = "Inputs provided does not match the number of inputs in transaction."
+    yield "inputs left out", psbt.MAGIC + field(b"\0", raw) + b"\0", missing
     signed = TX._replace(inputs=[TX.inputs[0]._replace(script=b"\x51")])
     yield "a script", spelled(tx=signed), "Unsigned tx does not have empty scriptSigs and scriptWitnesses."
     yield "no transaction", psbt.MAGIC + b"\0", "No unsigned transcation was provided"
@@ -132,7 +134,8 @@ def refused():
     yield "a longer value", spelled(field(b"\3", bytes(5)) + b"\0"), "Size of value was not the stated size"
     yield "a count in three bytes", spelled(b"\xfd\1\0\3\4" + bytes(4) + b"\0"), "non-canonical ReadCompactSize()"
     yield "a count that is too large", spelled(b"\xfe\1\0\0\2"), "ReadCompactSize(): size too large"
-    yield "a witness of nothing", spelled(field(b"\0", raw[:4] + b"\0\1" + raw[4:-4] + b"\0" + raw[-4:]) + b"\0"), "Superfluous witness record"
+    nothing = raw[:4] + b"\0\1" + raw[4:-4] + b"\0" + raw[-4:]
+    yield "a witness of nothing", spelled(field(b"\0", nothing) + b"\0"), "Superfluous witness record"
     yield "flags", spelled(field(b"\0", raw[:4] + b"\0\2" + raw[4:]) + b"\0"), "Unknown transaction optional data"
     named = {0: "Non-witness utxo", 1: "Witness utxo", 3: "Sighash type", 4: "Input redeemScript", 5: "Input witnessScript",
              7: "Final scriptSig", 8: "Final scriptWitness"}  # fmt: skip
@@ -152,11 +155,14 @@ def refused():
         yield name + " off the curve", spelled(field(kind + b"\5" + KEY[1:], bytes(4)) + b"\0"), "Invalid pubkey"
     yield "a path of 5 bytes", spelled(field(b"\6" + KEY, bytes(5)) + b"\0"), "Invalid length for HD key path"
     yield "no path", spelled(field(b"\6" + KEY, b"") + b"\0"), "Invalid length for HD key path"
-    yield "two signatures", spelled(2 * field(b"\2" + KEY, b"") + b"\0"), "Duplicate Key, input partial signature for pubkey already provided"
-    yield "two paths", spelled(2 * field(b"\6" + KEY, bytes(4)) + b"\0"), "Duplicate Key, pubkey derivation path already provided"
-    yield "two paths of an output", spelled(outputs=(2 * field(b"\2" + KEY, bytes(4)) + b"\0",)), "Duplicate Key, pubkey derivation path already provided"
+    twice = "Duplicate Key, input partial signature for pubkey already provided"
+    yield "two signatures", spelled(2 * field(b"\2" + KEY, b"") + b"\0"), twice
+    twice = "Duplicate Key, pubkey derivation path already provided"
+    yield "two paths", spelled(2 * field(b"\6" + KEY, bytes(4)) + b"\0"), twice
+    yield "two paths of an output", spelled(outputs=(2 * field(b"\2" + KEY, bytes(4)) + b"\0",)), twice
 
 
+CALLED = ("decodepsbt", "analyzepsbt", "finalizepsbt", "utxoupdatepsbt", "combinepsbt", "joinpsbts")
 #: Texts that are no base 64, or no PSBT: "extra data" has no stream's words behind it.
 TEXTS = ("====", "cHNidP8=A", "cHNidP9=", "cHNidP8", "cHNi dP8=", "cHNidP8-", "AAAAAAAA", "A===")
 
@@ -245,7 +251,7 @@ def secret(word):
 def drawn(dice):
     """One with any fields."""
     def some(most=40):
-        return dice.randbytes(dice.randrange(1, most)) if hasattr(dice, "randbytes") else bytes(dice.randrange(256) for _ in range(9))
+        return dice.randbytes(dice.randrange(1, most))
 
     def pairs(kind, value):
         return {kind(): value() for _ in range(dice.randrange(3))}
@@ -260,18 +266,19 @@ def drawn(dice):
         return bytes(4) + some(2) * 4 * dice.randrange(3)
 
     def known(kind, more):
-        return kind(redeem_script=some() * dice.randrange(2), witness_script=some(400) * dice.randrange(2), derivations=pairs(key, path),
-                    unknown=unknown(), **more)  # fmt: skip
+        redeem, inner = some() * dice.randrange(2), some(400) * dice.randrange(2)
+        return kind(redeem_script=redeem, witness_script=inner, derivations=pairs(key, path), unknown=unknown(), **more)
 
     spent = Transaction(1, [Input(some(2) * 32, 0, some(), 1)], [Output(dice.randrange(10**9), some()) for _ in range(3)], 0)
-    tx = Transaction(dice.choice((1, 2, -1)), [Input(spent.id, at, b"", dice.randrange(1 << 32)) for at in range(dice.randrange(4))],
-                     [Output(dice.randrange(10**9), some()) for _ in range(dice.randrange(4))], dice.randrange(1 << 32))  # fmt: skip
+    ins = [Input(spent.id, at, b"", dice.randrange(1 << 32)) for at in range(dice.randrange(4))]
+    outs = [Output(dice.randrange(10**9), some()) for _ in range(dice.randrange(4))]
+    tx = Transaction(dice.choice((1, 2, -1)), ins, outs, dice.randrange(1 << 32))
     found = psbt.blank(tx)
     for place in range(len(found.inputs)):
         data = write_transaction(spent)
-        more = {"sighash": dice.choice((0, 1, 2, 129)), "partial_sigs": pairs(key, some)} if dice.random() < 0.7 else {"final_script": some()}
+        more = {"sighash": dice.choice((0, 1, 2, 129)), "partial_sigs": pairs(key, some)}
         found.inputs[place] = known(PsbtInput, more)
-        if "final_script" in more:
+        if dice.random() < 0.3:
             found.inputs[place] = PsbtInput(final_script=some(), final_witness=tuple(some() for _ in range(dice.randrange(3))))
         if dice.random() < 0.5:
             found.inputs[place].non_witness_utxo = psbt.previous_of(data)
@@ -345,6 +352,22 @@ class RandomTest(unittest.TestCase):
         self.assertGreater(read, 1000)
         self.assertLess(time.monotonic() - begun, 60)
 
+    def test_hostile_requests(self):
+        """Each is answered, or refused with a code of Bitcoin Core's."""
+        running = Running()
+        self.addCleanup(running.stop)
+        dice, codes = random.Random(6), set()
+        seeds = [base64.b64decode(it) for it in (CREATED, UPDATED, FINAL)] + [psbt.encode(it) for it in list(forms())[::4]]
+        for _ in range(400):
+            data = bytearray(dice.choice(seeds))
+            for _ in range(dice.choice((1, 2))):
+                data[dice.randrange(len(data))] = dice.choice((0, 1, 2, 0xFD, 0xFE, 0xFF, dice.randrange(256)))
+            given = base64.b64encode(data).decode()
+            for method in CALLED:
+                found = running.call(method, [given, given] if method in ("combinepsbt", "joinpsbts") else given)
+                codes.add(found.get("code") if isinstance(found, dict) else None)
+        self.assertEqual(codes, {None, -22, -8})
+
     def test_large_ones(self):
         """As large as may be, of what costs most: each ends soon, and takes a bounded part of the memory."""
         many = psbt.MAX_PSBT - 200
@@ -406,10 +429,12 @@ HASHED = b"\0\x20" + consensus.sha256(BOTH)
 FORMS = (
     (push(ONE) + b"\xac", b"", b""), (push(LONG) + b"\xac", b"", b""), (paid(ONE), b"", b""), (paid(LONG), b"", b""),
     (multisig(1, TWO, ONE), b"", b""), (BOTH, b"", b""), (multisig(2, ONE, THREE, TWO), b"", b""), (script_hash(BOTH), BOTH, b""),
-    (script_hash(paid(ONE)), paid(ONE), b""), (script_hash(BOTH), b"", b""), (script_hash(multisig(1, LONG)), multisig(1, LONG), b""),
-    (PROGRAM, b"", b""), (script_hash(PROGRAM), PROGRAM, b""), (b"\0\x14" + hash160(LONG), b"", b""), (HASHED, b"", BOTH),
-    (script_hash(HASHED), HASHED, BOTH), (script_hash(HASHED), HASHED, b""), (HASHED, b"", b""), (b"\x51\x20" + bytes(32), b"", b""),
-    (b"\x51", b"", b""), (b"\x6a\x01\x07", b"", b""), (paid(THREE), b"", b""), (script_hash(script_hash(BOTH)), script_hash(BOTH), b""),
+    (script_hash(paid(ONE)), paid(ONE), b""), (script_hash(BOTH), b"", b""),
+    (script_hash(multisig(1, LONG)), multisig(1, LONG), b""), (PROGRAM, b"", b""), (script_hash(PROGRAM), PROGRAM, b""),
+    (b"\0\x14" + hash160(LONG), b"", b""), (HASHED, b"", BOTH),
+    (script_hash(HASHED), HASHED, BOTH), (script_hash(HASHED), HASHED, b""), (HASHED, b"", b""),
+    (b"\x51\x20" + bytes(32), b"", b""), (b"\x51", b"", b""), (b"\x6a\x01\x07", b"", b""), (paid(THREE), b"", b""),
+    (script_hash(script_hash(BOTH)), script_hash(BOTH), b""),
 )  # fmt: skip
 
 
@@ -465,12 +490,12 @@ class BesideLitecoindTest(unittest.TestCase):
             self.assertEqual(self.shown(base64.b64encode(data).decode())["code"], -22)
 
     def test_types(self):
-        for method in ("decodepsbt", "analyzepsbt", "finalizepsbt", "combinepsbt", "joinpsbts", "utxoupdatepsbt", "converttopsbt"):
+        for method in (*CALLED, "converttopsbt"):
             for value in (None, 5, [], [5], {}, True, [None], "", [""]):
                 self.same(method, value)
         for words in ((CREATED, 5), (CREATED, "x"), (CREATED, None)):
             self.same("finalizepsbt", *words)
-        for words in (([], None), (None, []), ("x", []), ([], 5), ([], {}, -1), ([], {}, 1, 5), ([{}], {}), ([{"txid": "00" * 32}], {})):
+        for words in (([], None), (None, []), ("x", []), ([], 5), ([], {}, -1), ([], {}, 1, 5), ([{}], {}), ([{"txid": ""}], {})):
             self.same("createpsbt", *words)
         for given in (5, [5], [{}], [{"desc": 5}], ["x"], ["pkh()"], [{"desc": f"pk({ONE.hex()})", "range": [2, 1]}]):
             self.same("utxoupdatepsbt", CREATED, given)
@@ -492,8 +517,8 @@ class BesideLitecoindTest(unittest.TestCase):
 
     def test_combined_and_joined_ones(self):
         one, two = CREATED, psbt.to_base64(psbt.blank(TX))
-        final = FINAL
-        for given in ([one], [one, UPDATED], [UPDATED, one], [one, final], [final, UPDATED], [one, two], [one, "x"], [], [UPDATED] * 3):
+        more = ([one, FINAL], [FINAL, UPDATED], [one, two], [one, "x"], [], [UPDATED] * 3)
+        for given in ([one], [one, UPDATED], [UPDATED, one], *more):
             self.same("combinepsbt", given)
         dice = random.Random(5)
         for _ in range(60):
@@ -535,7 +560,9 @@ class BesideLitecoindTest(unittest.TestCase):
         self.addCleanup(lambda: [CALLS.pop(name) for name in ("walletprocesspsbt", "walletcreatefundedpsbt")])
         made = psbt.to_base64(next(forms()))
         for given in (made, UPDATED, FINAL, "x"):
-            for more in ((True, "ALL", False), (False, "ALL", False), (True, "NONE", False), (True, "x"), (None,), (5,), (True, 5), (True, "ALL", 5)):
+            for more in ((True, "ALL", False), (False, "ALL", False), (True, "NONE", False)):
+                self.same("walletprocesspsbt", given, *more)
+            for more in ((True, "x"), (None,), (5,), (True, 5), (True, "ALL", 5)):
                 self.same("walletprocesspsbt", given, *more)
         # An output that isn't there.
         spent = psbt.blank(OWN._replace(inputs=[OWN.inputs[0]._replace(index=9)]))
@@ -562,7 +589,8 @@ class BesideLitecoindTest(unittest.TestCase):
             final += self.shown(psbt.to_base64(both)).get("complete", False)
             own = both.inputs[0]
             for key, signature in sorted(own.partial_sigs.items()):
-                for wrong in (b"", signature[:-1], signature[:-1] + b"\4", signature[:-1] + b"\x81", signature[:-2] + b"\0\1", higher(signature)):
+                ends = [signature[:-1] + end for end in (b"", b"\4", b"\x81")]
+                for wrong in (b"", *ends, signature[:-2] + b"\0\1", higher(signature)):
                     changed = deepcopy(both)
                     changed.inputs[0].partial_sigs[key] = wrong
                     self.shown(psbt.to_base64(changed))
@@ -584,8 +612,10 @@ class BesideLitecoindTest(unittest.TestCase):
     def test_updated_ones(self):
         """Coins of descriptors, on the chain and waiting, and what is paid to them."""
         one, two = ONE.hex(), TWO.hex()
-        described = (f"pkh({one})", f"wpkh({one})", f"sh(wpkh([00000001/1h/2]{one}))", f"sh(multi(2,{one},{two}))", f"wsh(multi(1,{two},{one}))",
-                     f"sh(wsh(pkh({two})))", f"combo({two})")  # fmt: skip
+        described = (
+            f"pkh({one})", f"wpkh({one})", f"sh(wpkh([00000001/1h/2]{one}))", f"sh(multi(2,{one},{two}))",
+            f"wsh(multi(1,{two},{one}))", f"sh(wsh(pkh({two})))", f"combo({two})",
+        )  # fmt: skip
         for name in described:
             found = []
             for call in (self.ours, self.theirs):
@@ -620,8 +650,10 @@ class Wallet:
 def unordered(given):
     """One without the order of its inputs and outputs."""
     found = psbt.from_base64(given)
-    ins = sorted((it, psbt.encode(Psbt(found.tx._replace(inputs=[it], outputs=[]), [own], []))) for it, own in zip(found.tx.inputs, found.inputs))
-    outs = sorted((it, psbt.encode(Psbt(TX._replace(inputs=[], outputs=[it]), [], [own]))) for it, own in zip(found.tx.outputs, found.outputs))
+    none = TX._replace(inputs=[], outputs=[])
+    ins = [Psbt(none._replace(inputs=[it]), [own], []) for it, own in zip(found.tx.inputs, found.inputs)]
+    outs = [Psbt(none._replace(outputs=[it]), [], [own]) for it, own in zip(found.tx.outputs, found.outputs)]
+    ins, outs = (sorted(map(psbt.encode, its)) for its in (ins, outs))
     return found.tx.version, found.tx.lock_time, ins, outs, found.unknown
 
 

@@ -158,8 +158,8 @@ class Pool:
     Whether one may wait is for the chainstate to say, by a dry run: its journal and its blocks stay as they are. Signatures
     that this asks for are verified, and stay known.
 
-    bench: a `Bench`, or the seats of a node or a replica (`nodebench.NodeBench`, `replicabench.ReplicaBench`), whose turn nobody has
-        who uses the pool. Each step that it takes is taken up when the pool is used next.
+    bench: a `Bench`, or the seats of a node or a replica (`nodebench.NodeBench`, `replicabench.ReplicaBench`), whose turn nobody
+        has who uses the pool. Each step that it takes is taken up when the pool is used next.
     most: how many bytes may wait.
     full_rbf: whether those that don't signal it are replaced too.
     """

@@ -330,7 +330,7 @@ _OUTPUT: Dict[int, _Field] = {
 
 
 def decode(data: bytes) -> Psbt:
-    """The partially signed transaction that all of these bytes spell, at most MAX_PSBT; else `PsbtError` in Bitcoin Core's words."""
+    """The one that all of these bytes spell, at most MAX_PSBT; else `PsbtError` in Bitcoin Core's words."""
     stream = _Stream(arguments.octets(data, "data"))
     if len(stream.data) > MAX_PSBT:
         raise PsbtError(f"It has more than {MAX_PSBT} bytes")
@@ -357,7 +357,7 @@ def decode(data: bytes) -> Psbt:
 
 
 def previous_of(data: bytes, may_have_witness: bool = True) -> Previous:
-    """The transaction of these bytes, else `PsbtError`; where it may have witnesses, what begins like one with them is one (BIP 144)."""
+    """The transaction of these bytes, else `PsbtError`. If it may have witnesses, what begins like one with them is one (BIP 144)."""
     stream = _Stream(arguments.octets(data, "data"))
     found = stream.previous(arguments.flag(may_have_witness, "may_have_witness"))
     if stream.is_left:
@@ -475,8 +475,8 @@ def _merge(own: Union[PsbtInput, PsbtOutput], other: Union[PsbtInput, PsbtOutput
 
 
 def join(psbts: Sequence[Psbt]) -> Psbt:
-    """One with the inputs and outputs of all, in their order, without signatures; the highest version and the lowest lock time. It is
-    a `PsbtError` where two have an input."""
+    """One with the inputs and outputs of all, in their order, without signatures; the highest version and the lowest lock time.
+    It is a `PsbtError` where two have an input."""
     arguments.sequence_of(psbts, Psbt, "psbts")
     version = max([1, *(it.tx.version & 0xFFFFFFFF for it in psbts)])
     lock = min([0xFFFFFFFF, *(it.tx.lock_time for it in psbts)])
@@ -496,7 +496,7 @@ def join(psbts: Sequence[Psbt]) -> Psbt:
 
 
 def extract(psbt: Psbt) -> bytes:
-    """The bytes of the transaction, with witnesses where an input has one (BIP 144). It is a `PsbtError` where an input isn't final."""
+    """The bytes of the transaction, with witnesses where an input has one (BIP 144); a `PsbtError` where an input isn't final."""
     arguments.instance(psbt, Psbt, "psbt")
     if not all(own.is_final for own in psbt.inputs):
         raise PsbtError("An input isn't final")

@@ -1,4 +1,4 @@
-"""Signing and finalizing partially signed transactions (BIP 174), as Bitcoin Core 0.21 does (its `SignPSBTInput` and `ProduceSignature`)."""
+"""Signing and finalizing partially signed transactions (BIP 174), as Bitcoin Core 0.21 does (`SignPSBTInput`, `ProduceSignature`)."""
 
 import struct
 from dataclasses import dataclass, field
@@ -25,8 +25,8 @@ _DUMMY = bytes.fromhex("3044022001" + "00" * 31 + "022001" + "00" * 31 + "01")
 
 @dataclass
 class Means:
-    """What is signed by: secrets and origins (as `PsbtInput.derivations` has them) by keys, keys and scripts by their hashes (HASH160).
-    A wallet may give its own mappings."""
+    """What is signed by: secrets and origins (as in `PsbtInput.derivations`) by keys, keys and scripts by their hashes (HASH160). A
+    wallet may give its own mappings."""
 
     secrets: Mapping[bytes, bytes] = field(default_factory=dict)
     keys: Mapping[bytes, bytes] = field(default_factory=dict)
@@ -47,8 +47,8 @@ class Satisfied(NamedTuple):
 
 
 def satisfy(code: bytes, signature: Callable[[bytes], Optional[bytes]], key_of: Callable[[bytes], Optional[bytes]]) -> Satisfied:
-    """The signatures, and keys, that a script to one key, its hash, or several keys asks for (Bitcoin Core's `SignStep`), by what gives a
-    key's signature, or None, and a hash's key. Of several keys each is asked, so that all signatures are known behind it."""
+    """The signatures, and keys, that a script to one key, its hash, or several keys asks for (Bitcoin Core's `SignStep`), by what gives
+    a key's signature, or None, and a hash's key. Of several keys each is asked, so that all signatures are known behind it."""
     kind, needed, _ = kind_of(code)
     if kind == "pubkeyhash":
         key = key_of(code[3:23])
@@ -271,7 +271,7 @@ class _Production:
     # ---- whether it is accepted
 
     def _is_accepted(self, code: bytes) -> bool:
-        """Whether it spends the output, by the rules that Bitcoin Core relays by: its signatures are in the strict form, and valid."""
+        """Whether it spends the output, by the rules that Bitcoin Core relays by: its signatures are of the strict form and valid."""
         used = self._used(code)
         if len(code) > MAX_SCRIPT or not all(self._is_strict(key, signature) for key, signature in used):
             return False
@@ -320,8 +320,8 @@ def holds(data: bytes, place: int, script: bytes, secp: Secp256k1) -> bool:
 
 
 def finalize(psbt: Psbt) -> bool:
-    """Puts the signatures of each input that has all of them into what spends its coin: whether each input has that (Bitcoin Core's
-    `FinalizePSBT`)."""
+    """Puts the signatures of each input that has all of them into what spends its coin: whether each input has that (Bitcoin
+    Core's `FinalizePSBT`)."""
     signer = Signer(instance(psbt, Psbt, "psbt"))
     return all([signer.sign(place).is_complete for place in range(len(psbt.inputs))])
 

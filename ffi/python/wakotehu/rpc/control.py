@@ -143,8 +143,8 @@ def getnetworkinfo(node: Node) -> Object:
         "connections_in": 0,
         "connections_out": 0,
         "networks": [
-            {"name": name, "limited": name == "onion", "reachable": name != "onion", "proxy": "", "proxy_randomize_credentials": False}
-            for name in ("ipv4", "ipv6", "onion")
+            {"name": name, "limited": is_limited, "reachable": not is_limited, "proxy": "", "proxy_randomize_credentials": False}
+            for name, is_limited in (("ipv4", False), ("ipv6", False), ("onion", True))
         ],
         "relayfee": Amount(1000),
         "incrementalfee": Amount(1000),

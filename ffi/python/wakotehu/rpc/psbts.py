@@ -8,8 +8,8 @@ from .. import consensus
 from ..chainstate import Coin
 from ..encoding import Output, Transaction, hash160, read_transaction, write_transaction
 from ..psbt import (
-    Mismatch, Previous, Psbt, PsbtError, PsbtInput, PsbtOutput, Unreadable, blank, combine, extract, from_base64, join, previous_of,
-    to_base64,
+    Mismatch, Previous, Psbt, PsbtError, PsbtInput, PsbtOutput, Unreadable, blank, combine, extract, from_base64, join,
+    previous_of, to_base64,
 )  # fmt: skip
 from ..psbtsigning import HashTypeMismatch, Lacks, Means, MissingOutput, Signed, Signer, fill
 from .blockchain import scanned_scripts
@@ -124,7 +124,8 @@ def _previous(own: Previous) -> Object:
     fields = transaction_fields(own.stripped, with_hex=False)
     if own.witnesses:
         weight = 3 * len(own.stripped) + len(own.data)
-        fields.update(hash=consensus.show(consensus.double_sha(own.data)), size=len(own.data), vsize=(weight + 3) // 4, weight=weight)
+        id = consensus.show(consensus.double_sha(own.data))
+        fields.update(hash=id, size=len(own.data), vsize=(weight + 3) // 4, weight=weight)
         for shown_input, items in zip(fields["vin"], own.witnesses):
             if items:
                 sequence = shown_input.pop("sequence")
@@ -447,8 +448,8 @@ class PsbtWallet(Protocol):
         """The bytes of its transaction of an id."""
 
     def fund(self, tx: Transaction, options: Object, adds: bool) -> Funded:
-        """A transaction that pays its outputs and a fee, by the options of fundrawtransaction; `adds`: coins are chosen unless the
-        options say otherwise."""
+        """A transaction that pays its outputs and a fee, by the options of fundrawtransaction; `adds`: coins are chosen unless
+        the options say otherwise."""
 
 
 def register(wallet_of: Callable[[Node], PsbtWallet]) -> None:
