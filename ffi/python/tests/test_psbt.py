@@ -611,10 +611,11 @@ class BesideLitecoindTest(unittest.TestCase):
 
     def test_updated_ones(self):
         """Coins of descriptors, on the chain and waiting, and what is paid to them."""
-        one, two = ONE.hex(), TWO.hex()
+        one, two, many = ONE.hex(), TWO.hex(), ",".join(key.hex() for key in keys(9, 8, 7, 6, 5))
         described = (
             f"pkh({one})", f"wpkh({one})", f"sh(wpkh([00000001/1h/2]{one}))", f"sh(multi(2,{one},{two}))",
-            f"wsh(multi(1,{two},{one}))", f"sh(wsh(pkh({two})))", f"combo({two})",
+            f"wsh(multi(1,{two},{one}))", f"sh(wsh(pkh({two})))", f"combo({two})", f"sh(multi(1,{many}))",
+            f"sh(wsh(multi(3,{many})))", f"wsh(sortedmulti(2,{many}))", f"sh(pk([0000abcd]{one}))",
         )  # fmt: skip
         for name in described:
             found = []

@@ -5,8 +5,7 @@ What signs and finalizes them is `psbtsigning`.
 
 import base64
 import re
-from copy import deepcopy
-from dataclasses import dataclass, field
+from dataclasses import dataclass, field, replace
 from functools import lru_cache
 from typing import Callable, Dict, Iterator, List, NamedTuple, Optional, Sequence, Set, Tuple, TypeVar, Union
 
@@ -215,6 +214,7 @@ class _Stream:
 
 _Read = TypeVar("_Read")
 _Map = TypeVar("_Map", "_Front", PsbtInput, PsbtOutput)
+_Own = TypeVar("_Own", PsbtInput, PsbtOutput)
 
 
 class _Front:
@@ -453,7 +453,9 @@ def combine(psbts: Sequence[Psbt]) -> Psbt:
     transactions differ."""
     if not arguments.sequence_of(psbts, Psbt, "psbts"):
         raise ValueError("psbts must have one at least")
-    found = deepcopy(psbts[0])
+    first = psbts[0]
+    inputs, outputs = [_copied(own) for own in first.inputs], [_copied(own) for own in first.outputs]
+    found = Psbt(first.tx, inputs, outputs, dict(first.unknown))
     for other in psbts[1:]:
         if other.tx != found.tx:
             raise Mismatch("PSBTs not compatible (different transactions)")
@@ -463,6 +465,11 @@ def combine(psbts: Sequence[Psbt]) -> Psbt:
             _merge(output, its_output)
         found.unknown = {**other.unknown, **found.unknown}
     return found
+
+
+def _copied(own: _Own) -> _Own:
+    """Another of the same fields."""
+    return replace(own, **{name: dict(value) for name, value in vars(own).items() if isinstance(value, dict)})
 
 
 def _merge(own: Union[PsbtInput, PsbtOutput], other: Union[PsbtInput, PsbtOutput]) -> None:
@@ -487,10 +494,10 @@ def join(psbts: Sequence[Psbt]) -> Psbt:
                 raise PsbtError(f"Input {spends.id[::-1].hex()}:{spends.index} exists in multiple PSBTs")
             known.add(spends)
             found.tx.inputs.append(spends)
-            found.inputs.append(deepcopy(own))
+            found.inputs.append(_copied(own))
             found.inputs[-1].partial_sigs, found.inputs[-1].final_script, found.inputs[-1].final_witness = {}, b"", ()
         found.tx.outputs.extend(psbt.tx.outputs)
-        found.outputs += deepcopy(psbt.outputs)
+        found.outputs += [_copied(own) for own in psbt.outputs]
         found.unknown = {**psbt.unknown, **found.unknown}
     return found
 

@@ -8,8 +8,8 @@ from .. import consensus
 from ..chainstate import Coin
 from ..encoding import Output, Transaction, hash160, read_transaction, write_transaction
 from ..psbt import (
-    Mismatch, Previous, Psbt, PsbtError, PsbtInput, PsbtOutput, Unreadable, blank, combine, extract, from_base64, join,
-    previous_of, to_base64,
+    MAX_PSBT, Mismatch, Previous, Psbt, PsbtError, PsbtInput, PsbtOutput, Unreadable, blank, combine, extract, from_base64,
+    join, previous_of, to_base64,
 )  # fmt: skip
 from ..psbtsigning import HashTypeMismatch, Lacks, Means, MissingOutput, Signed, Signer, fill
 from .blockchain import scanned_scripts
@@ -39,6 +39,13 @@ def _read(given: Any) -> Psbt:
         # What a stream of C++ adds.
         more = ": iostream error" if isinstance(error, Unreadable) else ""
         raise RpcError(DESERIALIZATION_ERROR, f"TX decode failed {error}{more}") from None
+
+
+def _read_all(given: List[Any]) -> List[Psbt]:
+    """Several, which have no more bytes together than one may have."""
+    if sum(len(it) for it in given if isinstance(it, str)) > 4 * MAX_PSBT // 3:
+        raise RpcError(DESERIALIZATION_ERROR, f"TX decode failed They have more than {MAX_PSBT} bytes")
+    return list(map(_read, given))
 
 
 # ---- made
@@ -195,7 +202,7 @@ def combinepsbt(node: Node, txs: Any) -> str:
         if not array(txs):
             raise RpcError(INVALID_PARAMETER, "Parameter 'txs' cannot be empty")
         try:
-            return to_base64(combine(list(map(_read, txs))))
+            return to_base64(combine(_read_all(txs)))
         except Mismatch as error:
             raise RpcError(INVALID_PARAMETER, str(error)) from None
 
@@ -207,7 +214,7 @@ def joinpsbts(node: Node, txs: Any) -> str:
     with node.others():
         if len(array(txs)) < 2:
             raise RpcError(INVALID_PARAMETER, "At least two PSBTs are required to join PSBTs.")
-        found = list(map(_read, txs))
+        found = _read_all(txs)
         try:
             return to_base64(_shuffled(join(found)))
         except PsbtError as error:
