@@ -73,6 +73,18 @@ WITNESSED = (
     "IAGLONfc0xTnNMkna9b7QPZzMlvEuqFEyADS8vAtsnZcASED0uFWdJQbrUqZY3LLh+GFbTZSYG2YVi/jnF6efkE/IQUCSDBFAiEA0SuFLYXc2WHS9fSrZgZU327t"
     "zHlMDDPOXMMJ/7X85Y0CIGczio4OFyXBl/saiK9Z9R5E5CVbIBZ8hoQDHAXR8lkqASECI7cr7vCWXRC+B3jv7NYfysb3mk6haTkzgHNEZPhPKrMAAAAAAAAA"
 )
+#: Of one signature of two for a witness program; and with a field that nobody knows.
+PARTIAL = (
+    "cHNidP8BAFUCAAAAASeaIyOl37UfxF8iD6WLD8E+HjNCeSqF1+Ns1jM7XLw5AAAAAAD/////AaBa6gsAAAAAGXapFP/pwAYQl8w7Y28ssEYPpPxCfStFiKwAAAAA"
+    "AAEBIJVe6gsAAAAAF6kUY0UgD2jRieGtwN8cTRbqjxTA2+uHIgIDsTQcy6doO2r08SOM1ul+cWfVafrEfx5I1HVBhENVvUZGMEMCIAQktY7/qqaU4VWepck7v9So"
+    "kGQiQFXN8HC2dxRpRC0HAh9cjrD+plFtYLisszrWTt5g6Hhb+zqpS5m9+GFR25qaAQEEIgAgdx/RitRZZm3Unz1WTj28QvTIR3TjYK2haBao7UiNVoEBBUdSIQOx"
+    "NBzLp2g7avTxI4zW6X5xZ9Vp+sR/HkjUdUGEQ1W9RiED3lXR4drIBeP4pYwfv5uUwC89uq/hJ/78pJlfJvggg71SriIGA7E0HMunaDtq9PEjjNbpfnFn1Wn6xH8e"
+    "SNR1QYRDVb1GELSmumcAAACAAAAAgAQAAIAiBgPeVdHh2sgF4/iljB+/m5TALz26r+En/vykmV8m+CCDvRC0prpnAAAAgAAAAIAFAACAAAA="
+)
+UNKNOWN = (
+    "cHNidP8BAD8CAAAAAf//////////////////////////////////////////AAAAAAD/////AQAAAAAAAAAAA2oBAAAAAAAACg8BAgMEBQYHCAkPAQIDBAUGBwgJ"
+    "CgsMDQ4PAAA="
+)
 #: The private keys of BIP 174's two signers.
 SIGNERS = (
     ("cP53pDbR5WtAD8dYAW9hhTjuvvTVaEiQBdrz9XPrgLBeRFiyCbQr", "cR6SXDoyfQrcp4piaiHE97Rsgta9mNhGTen9XeonVgwsh4iSgw6d"),
@@ -171,14 +183,24 @@ class VectorsTest(unittest.TestCase):
     """BIP 174's."""
 
     def test_each_is_written_as_it_is_read(self):
-        for given in (CREATED, UPDATED, FINAL):
+        for given in (CREATED, UPDATED, FINAL, PARTIAL, UNKNOWN):
             self.assertEqual(psbt.to_base64(psbt.from_base64(given)), given)
+        field = {bytes.fromhex("0f010203040506070809"): bytes(range(1, 16))}
+        self.assertEqual(psbt.from_base64(UNKNOWN).inputs[0].unknown, field)
         # The coin's transaction is written without its witnesses.
         found = psbt.from_base64(WITNESSED)
         self.assertEqual([len(it) for it in found.inputs[0].non_witness_utxo.witnesses], [2, 2])
         written = psbt.decode(psbt.encode(found))
         self.assertEqual(written.inputs[0].non_witness_utxo.witnesses, ())
         self.assertEqual(written.inputs[0].non_witness_utxo.id, found.inputs[0].non_witness_utxo.id)
+
+    def test_digest_of_a_witness_program(self):
+        """The signature that one has is valid."""
+        found = psbt.from_base64(PARTIAL)
+        [(key, signature)] = found.inputs[0].partial_sigs.items()
+        code, value = found.inputs[0].witness_script, found.inputs[0].witness_utxo.value
+        digest = psbtsigning.Signer(found).witness_digests.of(0, code, signature[-1], value)
+        self.assertTrue(SECP.valid(consensus.Triple(key, signature[:-1], digest)))
 
     def test_creator(self):
         tx = psbt.from_base64(UPDATED).tx
@@ -484,7 +506,7 @@ class BesideLitecoindTest(unittest.TestCase):
         return self.same("finalizepsbt", given)
 
     def test_vectors_and_what_is_refused(self):
-        for given in (CREATED, UPDATED, FINAL, WITNESSED, *TEXTS, ""):
+        for given in (CREATED, UPDATED, FINAL, WITNESSED, PARTIAL, UNKNOWN, *TEXTS, ""):
             self.shown(given)
         for _, data, _ in refused():
             self.assertEqual(self.shown(base64.b64encode(data).decode())["code"], -22)
