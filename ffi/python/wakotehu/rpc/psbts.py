@@ -392,10 +392,11 @@ def _outputs(psbt: Psbt) -> List[Optional[Output]]:
 
 
 def _signed(node: Node, signer: Signer) -> List[Signed]:
-    """What each input has and lacks. Each costs what the whole transaction's digest does; the server may end meanwhile."""
+    """What each input has and lacks. Each costs what the whole transaction's digest does, so the client may not wait for all."""
     found = []
     for place in range(len(signer.psbt.inputs)):
         node.expect_running()
+        node.expect_client()
         found.append(signer.sign(place))
     return found
 
