@@ -1,4 +1,5 @@
-"""`wakotehu-server -replica`: the calls of the server's own tests over a replica, and two servers with one history."""
+"""`wakotehu-server -replica`: the calls of the server's own tests over a replica, and two servers with one history; `Pool` at a
+replica's seats."""
 from __future__ import annotations
 
 import json
@@ -23,8 +24,10 @@ from wakotehu.encoding import push, write_transaction
 
 try:
     import test_mempool
+    import test_pool_seats
     import test_rpc
-    from wakotehu import consensus
+    from test_pool import spends
+    from wakotehu import Pool, consensus
     from wakotehu.replicabench import ReplicaBench
     from wakotehu.signatures import Secp256k1
 
@@ -50,6 +53,28 @@ if not LACKS:
         name = f"{case.__name__}OverAReplica"
         globals()[name] = type(name, (case,), {"start": staticmethod(over_a_replica), "__module__": __name__})
     del case
+
+    def replica(heights):
+        """The seats of a replica with a history of its own."""
+        url = Database.shared().make(f"pool{next(ReplicaTest._numbers)}", heights=heights)
+        return ReplicaBench(url, program=running.PROGRAM)
+
+    class PoolsAtReplicas(test_pool_seats.AtSeats):
+        opened = staticmethod(replica)
+
+        def test_another_machine(self):
+            """What a block of another machine has waits no more."""
+            with ReplicaBench(self.bench.own.replica.url, program=running.PROGRAM) as other:
+                tx, far = write_transaction(spends(self.coins[0])), Pool(other)
+                self.pool.add(tx)
+                far.add(tx)
+                self.assertEqual(len(far.mine()), 1)
+                until = time.monotonic() + 20
+                while len(self.pool) and time.monotonic() < until:
+                    time.sleep(0.05)
+                self.assertEqual((len(self.pool), len(far)), (0, 0))
+
+    globals().update(test_pool_seats.over(PoolsAtReplicas, "AtReplicas"))
 
 
 @unittest.skipIf(LACKS, LACKS)

@@ -19,7 +19,7 @@ from typing import Any, Dict, Iterator, List, NamedTuple, Tuple
 
 import wakotehu
 from blocks import NOW, Maker, block_id
-from wakotehu import bench, chainstate, consensus, encoding, errors, node, pipe, signatures
+from wakotehu import bench, chainstate, consensus, encoding, errors, node, pipe, psbt, psbtsigning, signatures
 from wakotehu.encoding import GENESIS
 
 ROOT = os.path.realpath(os.path.join(os.path.dirname(__file__), "..", "..", ".."))
@@ -182,6 +182,10 @@ WRONG["parts"] = [
     *(consensus.Parts(1, (), (bad,), 0) for field in ("value", "script")
       for bad in replaced(PARTS.outputs[0], field, KINDS[field])),
 ]  # fmt: skip
+PSBT = psbt.blank(TX)
+PSBT.inputs[0].final_script = b"\x51"
+WRONG["psbts"] = [*SEQUENCE, [1], [None], [RAW], [TX]]
+WRONG["function"], WRONG["optional own"] = [None, *WRONG["optional function"]], WRONG["own"][1:]
 HEADER = encoding.read_block(FIRST).header
 WRONG["header"] = [*WRONG["own"], TX, *(bad for field, kind in HEADERS.items() for bad in replaced(HEADER, field, kind))]
 WRONG["transactions"] = [*SEQUENCE, [1], [None], [RAW], [TX.inputs[0]]]
@@ -341,6 +345,16 @@ ROWS = [
     *(row(f"{kind}.{name}") for kind in ("node.Node", "asyncnode.AsyncNode") for name in ("close", "kill", "save")),
     *(row(f"{kind}.seat", number=("seat", 0)) for kind in ("node.Node", "asyncnode.AsyncNode")),
     *(row(f"{kind}.{name}", **words) for kind in ("node.Seat", "asyncnode.AsyncSeat") for name, words in SEAT),
+    row("psbt.blank", tx=("kind of transaction", TX)), row("psbt.decode", data=("bytes", psbt.encode(PSBT))),
+    row("psbt.previous_of", data=DATA, may_have_witness=("flag", True)), row("psbt.from_base64", text=("text", psbt.to_base64(PSBT))),
+    *(row(f"psbt.{name}", psbt=("own", PSBT)) for name in ("encode", "to_base64", "extract")),
+    *(row(f"psbt.{name}", psbts=("psbts", [PSBT])) for name in ("combine", "join")),
+    row("psbt.Previous.output", index=("number32", 0)), row("psbt.Psbt.spent", place=("place", 0)),
+    row("psbtsigning.finalize", psbt=("own", PSBT)),
+    row("psbtsigning.fill", psbt=("own", PSBT), means=("own", psbtsigning.Means()), previous=("function", lambda id: None),
+        kind=("number8", 1), signs=("flag", True), tells_origins=("flag", True)),
+    row("psbtsigning.Signer", psbt=("own", PSBT), means=("optional own", psbtsigning.Means()), kind=("number8", 1), is_dummy=("flag", False)),
+    *(row(f"psbtsigning.Signer.{name}", place=("place", 0)) for name in ("sign", "describe")),
     row("library.library"), row("library.secp256k1_library"),
 ]  # fmt: skip
 
@@ -352,7 +366,10 @@ OTHER = {
     "version", "__main__",
 }  # fmt: skip
 #: What other modules of the package call with what was taken before.
-INSIDE = {"addresses.base58", "addresses.data_of", "chainstate.reply_of"} | {
+INSIDE = {
+    "addresses.base58", "addresses.data_of", "chainstate.reply_of", "psbt.place_of", "psbt.prefixed", "psbt.secp", "psbt.written", "psbtsigning.filled",
+    "psbtsigning.holds", "psbtsigning.push_shortest", "psbtsigning.satisfy",
+} | {
     f"signatures.{name}" for name in (
         "KnownSignatures", "KnownSignatures.learn", "KnownSignatures.verdicts", "signatures_of",
     )
@@ -365,6 +382,9 @@ INSIDE = {"addresses.base58", "addresses.data_of", "chainstate.reply_of"} | {
 }  # fmt: skip
 #: What calls answer, and who is called: nobody makes them.
 ANSWERS = {
+    "psbt.Mismatch", "psbt.Previous", "psbt.Psbt", "psbt.PsbtError", "psbt.PsbtInput", "psbt.PsbtOutput", "psbt.Unreadable",
+    "psbtsigning.HashTypeMismatch", "psbtsigning.Lacks", "psbtsigning.Means", "psbtsigning.MissingOutput", "psbtsigning.Satisfied",
+    "psbtsigning.Signed",
     "consensus.Transaction", "consensus.Input", "consensus.Output", "consensus.Parts", "consensus.Block", "consensus.Header",
     "consensus.Opcode", "consensus.Script", "consensus.Refused", "consensus.Triple", "consensus.ScriptError", "chainstate.Coin",
     "chainstate.Tip", "chainstate.Reply", "chainstate.Reply.check", "bench.Entry", "encoding.EncodingError",
@@ -432,7 +452,8 @@ class WrongTest(unittest.TestCase):
             "chainstate.Chainstate": lambda: chainstate.Chainstate(by_need=True), "coinset.CoinSet": wakotehu.CoinSet,
             "bench.Bench": bench.Bench, "encoding.Spelled": lambda: encoding.block_at_front(FIRST),
             "signatures.Secp256k1": signatures.Secp256k1, "signatures.Verifier": signatures.Verifier,
-            "pool.Pool": lambda: wakotehu.Pool(POOLED),
+            "pool.Pool": lambda: wakotehu.Pool(POOLED), "psbt.Psbt": lambda: psbt.blank(TX), "psbt.Previous": lambda: psbt.previous_of(RAW),
+            "psbtsigning.Signer": lambda: psbtsigning.Signer(psbt.blank(TX)),
         }  # fmt: skip
         if name in made:
             found: Any = made[name]()

@@ -142,7 +142,10 @@ class Waiting(unittest.TestCase):
             self.bench.submit(block, NOW)
         self.coins = [self.maker.coinbases[block_id(block)].id for block in self.blocks]
         self.tip = block_id(self.blocks[-1])
-        self.pool = Pool(self.bench)
+        self.pool = self.pooled()
+
+    def pooled(self, **more):
+        return Pool(self.bench, **more)
 
     def add(self, *txs):
         for tx in txs:
@@ -260,7 +263,7 @@ class RulesTest(Waiting):
     def test_most(self):
         tx = spends(self.coins[0])
         size = len(write_transaction(tx))
-        self.pool = Pool(self.bench, 2 * size - 1)
+        self.pool = self.pooled(most=2 * size - 1)
         self.add(tx)
         self.refused(spends(self.coins[1]), "mempool full")
         self.pool.mine()
@@ -323,7 +326,7 @@ class ReplacedTest(Waiting):
         self.refused(spends(first.id, 40 * COIN), CONFLICT)
         both = Transaction(2, [Input(self.coins[0], 0, b"", LAST), Input(self.coins[1], 0, b"", LAST)], [Output(COIN, b"\x51")], 0)
         self.refused(both, CONFLICT)
-        self.pool = Pool(self.bench, full_rbf=True)
+        self.pool = self.pooled(full_rbf=True)
         self.add(first, child, quiet, both)
         self.assertEqual(self.waiting(), [both.id])
 
@@ -351,7 +354,7 @@ class ReplacedTest(Waiting):
         """What goes leaves its room."""
         first = self.signalling()
         size = len(write_transaction(first))
-        self.pool = Pool(self.bench, size)
+        self.pool = self.pooled(most=size)
         self.add(first)
         self.refused(spends(self.coins[1], 0), "mempool full")
         self.add(spends(self.coins[0], 0))
@@ -624,7 +627,7 @@ class BranchTest(Waiting):
         self.assertEqual(self.waiting(), [tx.id for tx in large])
 
     def test_several_pools_and_copies(self):
-        other, tx = Pool(self.bench), spends(self.coins[0])
+        other, tx = self.pooled(), spends(self.coins[0])
         self.add(tx)
         self.assertEqual(len(other), 0)
         with self.bench.copy() as copy:

@@ -1,16 +1,19 @@
-"""Transactions that wait to be mined on a `Bench`."""
+"""Transactions that wait to be mined on a `Bench`, or at the seats of a node or a replica."""
 
 import time
-from typing import Iterator, List, Optional, Union
+from collections import deque
+from typing import Deque, Iterator, List, Optional, Sequence, Tuple, Union
 
 from .addresses import script_of
 from .arguments import id_of, instance, number, octets, signed, text
 from .bench import Bench
-from .chainstate import Coin
+from .chainstate import Coin, Reply, moment_of
 from .consensus import Triple
-from .encoding import Transaction, coinbase, mine_spelled, subsidy, write_transaction
-from .errors import NotFound, TooMany
+from .encoding import Spelled, Transaction, coinbase, double_sha, mine_spelled, subsidy, write_transaction
+from .errors import NotAccepted, NotFound, TooMany
+from .index import Index
 from .mempool import MOST_BYTES, Entry, Mempool, Room
+from .nodebench import Move, NodeBench
 from .stage import Stage
 
 #: The script 51, which anyone spends: to it pay blocks where nothing else is said.
@@ -18,12 +21,51 @@ ANYONE = b"\x51"
 
 
 class _Mempool(Mempool):
-    def __init__(self, bench: Bench, most: int, full_rbf: bool) -> None:
-        super().__init__(bench, most, full_rbf)
-        self._own = bench
+    """What waits on the active branch of a bench."""
 
     def now(self) -> int:
         return int(time.time())
+
+    def moves(self) -> Iterator[Tuple[Sequence[bytes], Sequence[bytes]]]:
+        """The moves of the active branch that weren't asked for yet: the blocks that left it, and those that came."""
+        raise NotImplementedError
+
+    def fresh(self) -> int:
+        """A number for a block that is made."""
+        raise NotImplementedError
+
+    def submit(self, block: bytes) -> None:
+        """Submits a block."""
+        raise NotImplementedError
+
+    def look_again(self) -> None:
+        """As it is after all moves."""
+        for gone, come in self.moves():
+            self.follow(gone, come)
+        super().look_again()
+
+
+class _Benched(_Mempool):
+    """On a `Bench`."""
+
+    def __init__(self, bench: Bench, most: int, full_rbf: bool) -> None:
+        super().__init__(bench, most, full_rbf)
+        self._own = bench
+        self._seen, self._best = len(bench.bests), bench.best()
+
+    def moves(self) -> Iterator[Tuple[Sequence[bytes], Sequence[bytes]]]:
+        bests = self._own.bests
+        while self._seen < len(bests):
+            before, self._best = self._best, bests[self._seen]
+            self._seen += 1
+            if before != self._best:
+                yield self._own.index.way(before, self._best)
+
+    def fresh(self) -> int:
+        return self._own.fresh()
+
+    def submit(self, block: bytes) -> None:
+        self._own.submit(block)
 
     def stage(self) -> Optional[Stage]:
         try:
@@ -35,32 +77,100 @@ class _Mempool(Mempool):
         return self._own._test([triple])[triple]
 
 
+class _Turned:
+    """The seats of a node as a mempool asks them: each call has the turn."""
+
+    def __init__(self, bench: NodeBench) -> None:
+        self._own = bench
+        self.heights: Sequence[int] = bench.heights
+
+    @property
+    def index(self) -> Index:
+        return self._own.index
+
+    def judge_spelled(self, spelled: Spelled, now: int) -> Reply:
+        with self._own.turn:
+            return self._own.judge_spelled(spelled, now)
+
+    def coins_at(self, outpoints: Sequence[Tuple[bytes, int]]) -> List[Optional[Coin]]:
+        with self._own.turn:
+            return self._own.coins_at(outpoints)
+
+    def block(self, id: bytes) -> Optional[bytes]:
+        return self._own.block(id)
+
+
+class _Seated(_Mempool):
+    """At the seats of a node, whose active branch other threads, or other machines, move meanwhile."""
+
+    def __init__(self, bench: NodeBench, most: int, full_rbf: bool) -> None:
+        super().__init__(_Turned(bench), most, full_rbf)
+        self._own, self._told = bench, bench.moved
+        self._moved: Deque[Move] = deque()
+        with bench.turn:
+            bench.moved = self._note
+
+    def _note(self, move: Move) -> None:
+        """Notes a move, on the thread that takes the step: what is judged meanwhile is judged again."""
+        self._told(move)
+        self._moves += 1
+        self._moved.append(move)
+
+    def judge(self, data: bytes, tx: Optional[Transaction] = None) -> Entry:
+        while True:
+            moves = self._moves
+            self.look_again()
+            try:
+                found = super().judge(data, tx)
+            except NotAccepted:
+                if self._moves == moves:
+                    raise
+            else:
+                if self._moves == moves:
+                    return found
+
+    def moves(self) -> Iterator[Tuple[Sequence[bytes], Sequence[bytes]]]:
+        while self._moved:
+            move = self._moved.popleft()
+            yield move.gone, move.come
+
+    def fresh(self) -> int:
+        with self._own.turn:
+            return self._own.fresh()
+
+    def submit(self, block: bytes) -> None:
+        with self._own.turn:
+            self._own.try_submit(block, moment_of(None)).check()
+
+    def stage(self) -> Optional[Stage]:
+        with self._own.turn:
+            return self._own.stage()
+
+    def is_valid(self, triple: Triple) -> bool:
+        return self._own.is_valid(triple)
+
+
 class Pool:
-    """Transactions that wait to be mined on the active branch of a `Bench`, in the order in which they came, by consensus rules
+    """Transactions that wait to be mined on the active branch of a bench, in the order in which they came, by consensus rules
     alone: there is no policy, but that one which pays more replaces those that signal it (BIP 125). A block takes those away
     that it has, with what spends the same coins; what blocks that leave the active branch had waits again.
 
     Whether one may wait is for the chainstate to say, by a dry run: its journal and its blocks stay as they are. Signatures
     that this asks for are verified, and stay known.
 
-    bench: each step that it takes is taken up when the pool is used next.
+    bench: a `Bench`, or the seats of a node or a replica (`nodebench.NodeBench`, `replicabench.ReplicaBench`), whose turn nobody
+        has who uses the pool. Each step that it takes is taken up when the pool is used next.
     most: how many bytes may wait.
     full_rbf: whether those that don't signal it are replaced too.
     """
 
-    def __init__(self, bench: Bench, most: int = MOST_BYTES, full_rbf: bool = False) -> None:
-        self.bench = instance(bench, Bench, "bench")
-        self._seen, self._best = len(bench.bests), bench.best()
-        self._all = _Mempool(bench, number(most, "most", 64), instance(full_rbf, bool, "full_rbf"))
+    def __init__(self, bench: Union[Bench, NodeBench], most: int = MOST_BYTES, full_rbf: bool = False) -> None:
+        most, full_rbf = number(most, "most", 64), instance(full_rbf, bool, "full_rbf")
+        self.bench = bench if isinstance(bench, NodeBench) else instance(bench, Bench, "bench")
+        self._all = _Seated(bench, most, full_rbf) if isinstance(bench, NodeBench) else _Benched(bench, most, full_rbf)
 
     def _now(self) -> Mempool:
         """What waits, after all steps of the bench so far."""
-        bests = self.bench.bests
-        while self._seen < len(bests):
-            best = bests[self._seen]
-            if best != self._best:
-                self._all.follow(*self.bench.index.way(self._best, best))
-            self._best, self._seen = best, self._seen + 1
         self._all.look_again()
         return self._all
 
@@ -137,7 +247,7 @@ class Pool:
         all, outpoint = self._now(), (id_of(id), number(index, "index"))
         if outpoint in all.spenders:
             return None
-        return all.coin(*outpoint) or self.bench.coin(*outpoint)
+        return all.coin(*outpoint) or all.bench.coins_at([outpoint])[0]
 
     # ---- blocks
 
@@ -150,7 +260,7 @@ class Pool:
         """The block that `mine` would submit."""
         chosen, tip = self.selection(to), self._all.tip()
         fees = sum(entry.fee for entry in chosen)
-        made = _made(tip.height + 1, fees, _script(to), self.bench.fresh())
+        made = _made(tip.height + 1, fees, _script(to), self._all.fresh())
         data = [write_transaction(made), *(entry.data for entry in chosen)]
         return mine_spelled(tip.id, tip.header.time + 1, data).data
 
@@ -159,8 +269,9 @@ class Pool:
         address. A block's time is a second behind its parent's, as with `wakotehu.benches.Miner`."""
         script, found = _script(to), []
         for _ in range(number(count, "count")):
-            self.bench.submit(self.template(script))
-            found.append(self.bench.best())
+            block = self.template(script)
+            self._all.submit(block)
+            found.append(double_sha(block[:80]))
         self._now()
         return found
 

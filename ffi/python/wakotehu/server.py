@@ -22,8 +22,8 @@ from .errors import Error
 from .nodebench import SEATS, NodeBench
 from .replicabench import ReplicaBench
 from .rpc import (
-    addresses, blockchain, chain, control, descriptors, filters, keys, making, mining, notices, policy, proofs, saved, sending,
-    settings, signing, stats, template, txs, waiting,
+    addresses, blockchain, chain, control, descriptors, filters, keys, making, mining, notices, policy, proofs, psbts, saved,
+    sending, settings, signing, stats, template, txs, waiting,
 )  # fmt: skip
 from .rpc.auth import COOKIE_USER, Gate, remove_cookie, write_cookie
 from .rpc.datadir import BadFolder, Folder, Opening
@@ -36,8 +36,8 @@ from .version import __version__
 
 #: The modules that put calls into the table.
 MODULES = (
-    addresses, blockchain, chain, control, descriptors, filters, keys, making, mining, notices, proofs, saved, sending, signing,
-    stats, template, txs, waiting,
+    addresses, blockchain, chain, control, descriptors, filters, keys, making, mining, notices, proofs, psbts, saved, sending,
+    signing, stats, template, txs, waiting,
 )  # fmt: skip
 #: The file of -datadir that has what waits to be mined.
 MEMPOOL = "mempool.dat"

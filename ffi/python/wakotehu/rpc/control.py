@@ -4,9 +4,9 @@ import time
 from typing import Any, Dict, List, Optional, Set, Tuple
 
 from ..version import __version__
-from .errors import INVALID_PARAMETER, INVALID_PARAMS, MISC_ERROR, NODE_NOT_CONNECTED, P2P_DISABLED, RpcError
+from .errors import INVALID_PARAMETER, INVALID_PARAMS, MISC_ERROR, NODE_NOT_ADDED, NODE_NOT_CONNECTED, P2P_DISABLED, RpcError
 from .node import CALLS, Node, call
-from .values import Amount, Object, integer, shortened, text
+from .values import Amount, Object, boolean, integer, shortened, text
 
 
 @call("Control", "command")
@@ -134,15 +134,18 @@ def getnetworkinfo(node: Node) -> Object:
         "version": 210000,
         "subversion": f"/Wakotehu:{__version__}/",
         "protocolversion": 70016,
-        "localservices": "0000000000000000",
-        "localservicesnames": [],
-        "localrelay": False,
+        "localservices": "0000000000000401",
+        "localservicesnames": ["NETWORK", "NETWORK_LIMITED"],
+        "localrelay": True,
         "timeoffset": 0,
-        "networkactive": False,
+        "networkactive": node.is_network_active,
         "connections": 0,
         "connections_in": 0,
         "connections_out": 0,
-        "networks": [],
+        "networks": [
+            {"name": name, "limited": is_limited, "reachable": not is_limited, "proxy": "", "proxy_randomize_credentials": False}
+            for name, is_limited in (("ipv4", False), ("ipv6", False), ("onion", True))
+        ],
         "relayfee": Amount(1000),
         "incrementalfee": Amount(1000),
         "localaddresses": [],
@@ -188,6 +191,40 @@ def addnode(own: Node, node: Any, command: Any) -> None:
     if text(command) not in ("add", "remove", "onetry"):
         raise RpcError(MISC_ERROR, f"{CALLS['addnode'].usage}\n\n{CALLS['addnode'].about}\n")
     raise RpcError(P2P_DISABLED, "Error: Peer-to-peer functionality missing or disabled")
+
+
+@call("Network", "node")
+def getaddednodeinfo(own: Node, node: Any) -> List[Object]:
+    """The peers that were added: none."""
+    if node is not None:
+        raise RpcError(NODE_NOT_ADDED, "Error: Node has not been added.")
+    return []
+
+
+@call("Network", "count")
+def getnodeaddresses(node: Node, count: Any) -> List[Object]:
+    """The addresses of peers that are known: none."""
+    if count is not None and integer(count) < 0:
+        raise RpcError(INVALID_PARAMETER, "Address count out of range")
+    return []
+
+
+@call("Network")
+def listbanned(node: Node) -> List[Object]:
+    """The peers that aren't let in: none."""
+    return []
+
+
+@call("Network")
+def clearbanned(node: Node) -> None:
+    """Lets in all peers: there are none."""
+
+
+@call("Network", "state", needed=1)
+def setnetworkactive(node: Node, state: Any) -> bool:
+    """Is remembered: there are no peers."""
+    node.is_network_active = boolean(state)
+    return node.is_network_active
 
 
 @call("Network", "address", "nodeid")

@@ -18,10 +18,11 @@ def createrawtransaction(node: Node, inputs: Any, outputs: Any, locktime: Any, r
     """A transaction, not signed, as digits: inputs {"txid", "vout", "sequence"}, and outputs {ADDRESS: AMOUNT} or
     {"data": HEX} in a list or an object."""
     with node.others():
-        return _created(inputs, outputs, locktime, replaceable)
+        return write_transaction(made_transaction(inputs, outputs, locktime, replaceable)).hex()
 
 
-def _created(inputs: Any, outputs: Any, locktime: Any, replaceable: Any) -> str:
+def made_transaction(inputs: Any, outputs: Any, locktime: Any, replaceable: Any) -> Transaction:
+    """The transaction of a call's parameters (Bitcoin Core's `ConstructTransaction`)."""
     for value, kind in ((inputs, "array"), (locktime, "number"), (replaceable, "bool")):
         expect_or_null(value, kind)
     if outputs is None:
@@ -36,7 +37,7 @@ def _created(inputs: Any, outputs: Any, locktime: Any, replaceable: Any) -> str:
     if replaceable and ins and all(it.sequence > REPLACEABLE for it in ins):
         message = "Invalid parameter combination: Sequence number(s) contradict replaceable option"
         raise RpcError(INVALID_PARAMETER, message)
-    return write_transaction(Transaction(2, ins, outs, lock)).hex()
+    return Transaction(2, ins, outs, lock)
 
 
 def _input(given: Any, sequence: int) -> Input:

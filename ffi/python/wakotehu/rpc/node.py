@@ -51,6 +51,8 @@ class Node:
         self.publisher: Optional["Publisher"] = None
         #: The private keys of the addresses that were given, by the hashes of their keys.
         self.keys: Dict[bytes, bytes] = {}
+        #: What `setnetworkactive` said last.
+        self.is_network_active = True
         #: The categories of the log that are on.
         self.logged: Set[str] = set()
         #: The calls that run, by their threads: the name, and when they began.
@@ -91,11 +93,15 @@ class Node:
         """From now on this thread calls for a client that may be gone."""
         self._caller.is_gone = is_gone
 
-    def wait(self, until: Optional[float]) -> None:
-        """Waits for a step, or until a moment of the monotonic clock; while the client is there."""
+    def expect_client(self) -> None:
+        """Ends the call where its client is gone."""
         is_gone: Optional[Callable[[], bool]] = getattr(self._caller, "is_gone", None)
         if is_gone and is_gone():
             raise RpcError(MISC_ERROR, "The client is gone")
+
+    def wait(self, until: Optional[float]) -> None:
+        """Waits for a step, or until a moment of the monotonic clock; while the client is there."""
+        self.expect_client()
         self.turn.wait(LOOK if until is None else max(0.0, min(LOOK, until - time.monotonic())))
 
     def leave(self) -> None:

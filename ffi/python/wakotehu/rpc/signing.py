@@ -2,10 +2,10 @@
 
 from typing import Any, Dict, List, NamedTuple, Optional, Tuple
 
-from .. import consensus
 from ..chainstate import show
 from ..consensus import Triple
-from ..encoding import Input, Transaction, hash160, operations, push, signature_digest, write_transaction
+from ..encoding import Input, Transaction, hash160, operations, signature_digest, write_transaction
+from ..psbtsigning import filled, holds, push_shortest, satisfy
 from ..signatures import Secp256k1
 from .errors import DESERIALIZATION_ERROR, INVALID_ADDRESS_OR_KEY, INVALID_PARAMETER, MISC_ERROR, RpcError
 from .node import Node, call
@@ -159,7 +159,7 @@ class _Signer:
         if self.means.kind & 127 != 3 or self.place < len(tx.outputs):
             self._read_known()
             inputs = list(tx.inputs)
-            inputs[self.place] = inputs[self.place]._replace(script=b"".join(map(_push, self._items())))
+            inputs[self.place] = inputs[self.place]._replace(script=b"".join(map(push_shortest, self._items())))
             tx = tx._replace(inputs=inputs)
         if not self._holds(tx):
             self.error = self._why(tx.inputs[self.place].script)
@@ -172,18 +172,13 @@ class _Signer:
         if kind not in _SIGNED:
             return "The script isn't satisfied"
         lacks = needed - len(self.known)
-        if kind != "multisig" or not made or lacks > _filled(lacks):
+        if kind != "multisig" or not made or lacks > filled(lacks):
             return _MISSING
         return _FEW if self.known else _FALSE
 
     def _holds(self, tx: Transaction) -> bool:
         """Whether the input may spend its script."""
-        data, known = write_transaction(tx), {True: b"", False: b""}
-        while True:
-            found = consensus.verify_known(data, self.place, self.script, consensus.ALL, known[True], known[False])
-            if isinstance(found, bool):
-                return found
-            known[self.means.secp.valid(found)] += found.line
+        return holds(write_transaction(tx), self.place, self.script, self.means.secp)
 
     @staticmethod
     def _pushes(script: bytes) -> List[bytes]:
@@ -228,21 +223,7 @@ class _Signer:
 
     def _step(self, code: bytes) -> List[bytes]:
         """The signatures, and keys, that a script asks for; none where one of them can't be made."""
-        kind, needed, _ = kind_of(code)
-        if kind == "pubkeyhash":
-            key = self._key_of(code[3:23])
-            signature = b"" if key is None else self._signature(key, code)
-            return [signature, key] if key is not None and signature else []
-        if kind not in ("pubkey", "multisig"):
-            return []
-        made: List[bytes] = []
-        for key in script_keys(code):
-            signature = self._signature(key, code) if len(made) < needed else b""
-            made += [signature] * bool(signature)
-        if kind == "pubkey":
-            return made
-        # What stands for a signature that isn't there is empty, and so is what CHECKMULTISIG takes besides.
-        return [b"", *made, *[b""] * _filled(needed - len(made))]
+        return satisfy(code, lambda key: self._signature(key, code) or None, self._key_of).items
 
     def _key_of(self, hash: bytes) -> Optional[bytes]:
         """The key of a hash."""
@@ -256,14 +237,3 @@ class _Signer:
             self.known[key] = made + bytes([self.means.kind])
         return self.known.get(key, b"")
 
-
-def _filled(lacks: int) -> int:
-    """How many empty ones Bitcoin Core 0.21 puts where so many signatures are missing: half of them, by its loop."""
-    return (lacks + 1) // 2
-
-
-def _push(data: bytes) -> bytes:
-    """The push of data by the shortest operation."""
-    if len(data) == 1 and 1 <= data[0] <= 16:
-        return bytes([0x50 + data[0]])
-    return b"\x4f" if data == b"\x81" else push(data)
