@@ -57,6 +57,14 @@ class TogetherTest(Waiting):
             message = "package topology disallowed. not child-with-parents or parents depend on each other."
             self.assertEqual(self.call("submitpackage", raw(self.spends(self.coins[5]), second)), {"code": -25, "message": message})
 
+    def test_a_coin_that_one_spends_twice(self):
+        """By inputs that differ: it is refused by itself, as by litecoind, and is no conflict of several."""
+        inputs = [Input(self.coins[0], 0, b"", LAST), Input(self.coins[0], 0, b"", LAST - 1)]
+        twice, other = Transaction(2, inputs, [Output(COIN, b"\x51")], 0), self.spends(self.coins[1])
+        refused = {"txid": show(twice.id), "allowed": False, "reject-reason": "bad-txns-inputs-duplicate"}
+        self.assertEqual(self.asked(twice), [refused])
+        self.assertEqual(self.asked(twice, other), [refused, {"txid": show(other.id)}])
+
     def test_together_none_is_replaced(self):
         first = Transaction(2, [Input(self.coins[0], 0, b"", LAST - 2)], [Output(49 * COIN, b"\x51")], 0)
         self.send(first)
