@@ -5,7 +5,9 @@ import os
 import signal
 import struct
 import tempfile
+import threading
 import unittest
+import unittest.mock
 
 from blocks import spend
 from mempool_steps import COIN, LAST
@@ -228,6 +230,18 @@ class FileTest(Waiting):
             self.assertEqual(os.stat(path).st_mode & 0o777, 0o600)
             node.saves_to = os.path.join(folder, "none", "mempool.dat")
             self.assertEqual(self.call("savemempool"), {"code": -1, "message": "Unable to dump mempool to disk"})
+
+    def test_others_go_on_while_the_disk_is_waited_for(self):
+        begun, ends = threading.Event(), threading.Event()
+        self.running.node.saves_to = "mempool.dat"
+        with unittest.mock.patch.object(saved, "_write", side_effect=lambda path, data: begun.set() or ends.wait(30)):
+            thread = threading.Thread(target=self.call, args=("savemempool",))
+            thread.start()
+            self.assertTrue(begun.wait(10))
+            self.send(self.spends(self.coins[0], 49 * COIN))
+            self.assertTrue(thread.is_alive())
+            ends.set()
+            thread.join()
 
     def test_no_folder(self):
         self.assertEqual(self.call("savemempool"), {"code": -1, "message": "Unable to dump mempool to disk"})

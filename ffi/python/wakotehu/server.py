@@ -386,12 +386,14 @@ def _run(given: argparse.Namespace, folder: Optional[Folder], cookies: List[Tupl
         if folder and given.persistmempool:
             node.saves_to = os.path.join(given.datadir, MEMPOOL)
             with node.turn:
-                saved.load(node, node.saves_to)
+                if not saved.load(node, node.saves_to, lambda: signals.came):
+                    return
         node.publisher = publisher
         node.filters = filters.FilterIndex() if given.blockfilterindex else None
         serve(node, gate, hosts, given.rpcport, ready, Page(node) if given.page else None, lambda: signals.came)
         if node.saves_to is not None and not node.broken:
-            saved.save(node.mempool, node.saves_to)
+            with node.turn:
+                saved.save(node, node.saves_to)
         if node.broken:
             raise Error(node.broken)
 
