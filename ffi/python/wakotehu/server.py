@@ -237,7 +237,7 @@ def _with_file(parser: _Parser, words: Sequence[str]) -> argparse.Namespace:
     password = None
     try:
         if path is not None:
-            found = settings.read(path)
+            found = settings.read(path, bool(given.conf))
             given, password = parser.parse([*found.words, *words]), found.password
             for line in found.ignored:
                 print(f"wakotehu-server: {line}", file=sys.stderr)

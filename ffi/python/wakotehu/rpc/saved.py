@@ -9,6 +9,7 @@ from typing import Callable, Dict, List, NamedTuple, Set
 
 from ..encoding import EncodingError, Transaction, _count, _Reader
 from ..errors import DecodeFailed, NotAccepted
+from ..history import regular
 from ..mempool import Mempool
 from .errors import MISC_ERROR, RpcError
 from .mempool import ServedMempool
@@ -95,7 +96,7 @@ def _write(path: str, data: bytes) -> None:
 
 
 def _private(path: str, flags: int) -> int:
-    return os.open(path, flags | os.O_NOFOLLOW, 0o600)
+    return regular(path, flags | os.O_NOFOLLOW)
 
 
 def load(node: Node, path: str, is_ending: Callable[[], bool] = lambda: False) -> bool:
@@ -107,7 +108,7 @@ def load(node: Node, path: str, is_ending: Callable[[], bool] = lambda: False) -
             raise _Ends
 
     try:
-        with open(path, "rb") as file:
+        with open(path, "rb", opener=regular) as file:
             found = read(file.read(), look)
     except _Ends:
         return False
