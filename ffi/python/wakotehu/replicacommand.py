@@ -6,7 +6,6 @@
 
 import argparse
 import os
-import signal
 import subprocess
 import sys
 import tempfile
@@ -21,6 +20,7 @@ from .replica import Replica
 from .replicalog import FORMAT, Log, Lost, Refused, Row, Told
 from .served import program_path
 from .signatures import secp256k1
+from .stopping import Signals
 
 #: Regtest's mark before a record of a blk file.
 _MAGIC = bytes.fromhex("fabfb5da")
@@ -139,19 +139,21 @@ def _wrong_verdicts(known: Dict[str, bool]) -> List[str]:
 
 def _follow(given: argparse.Namespace) -> int:
     """Follows, and says once a second where the replica is, until it is told to end."""
-    signal.signal(signal.SIGTERM, signal.default_int_handler)
+    signals, shown, asked = Signals(), -1, -2.0
     try:
         with Replica(given.url, 1, name=given.name, recheck=given.recheck, durable=not given.not_durable) as replica:
-            shown = -1
-            while True:
-                status = replica.status()
-                if status.place != shown or status.lost:
-                    lost = f", the database can't be reached: {status.lost}" if status.lost else ""
-                    print(f"place {status.place}, {status.behind:.1f} s behind at most{lost}", flush=True)
-                    shown = status.place
-                time.sleep(1)
+            signals.raises = False
+            while not signals.came:
+                if time.monotonic() - asked > 1:
+                    asked, status = time.monotonic(), replica.status()
+                    if status.place != shown or status.lost:
+                        lost = f", the database can't be reached: {status.lost}" if status.lost else ""
+                        print(f"place {status.place}, {status.behind:.1f} s behind at most{lost}", flush=True)
+                        shown = status.place
+                time.sleep(0.1)
     except KeyboardInterrupt:
-        return 0
+        pass
+    return 0
 
 
 def _init(given: argparse.Namespace) -> int:

@@ -6,12 +6,10 @@ or with those of a table.
 """
 
 import argparse
-import atexit
 import contextlib
 import ctypes
 import gc
 import os
-import signal
 import sys
 import threading
 import time
@@ -32,6 +30,7 @@ from .rpc.jsonrpc import answer
 from .rpc.node import Node, run
 from .rpc.page import PATH, Page
 from .signatures import Verifier
+from .stopping import Signals
 from .version import __version__
 
 #: The modules that put calls into the table.
@@ -328,29 +327,6 @@ def _collect_seldom() -> None:
     gc.set_threshold(100_000, 50, 100)
 
 
-class _Signals:
-    """SIGINT and SIGTERM, from now on. The first one raises KeyboardInterrupt as long as the server is opened; while it serves it is
-    noted. All others change nothing, also while the interpreter ends."""
-
-    def __init__(self) -> None:
-        self.came = False
-        self.raises = True
-        for number in (signal.SIGINT, signal.SIGTERM):
-            signal.signal(number, self._note)
-        atexit.register(self._ignore)
-
-    def _note(self, number: int, frame: object) -> None:
-        is_first, self.came = not self.came, True
-        if is_first and self.raises:
-            raise KeyboardInterrupt
-
-    @staticmethod
-    def _ignore() -> None:
-        # The interpreter would have them end the process again.
-        for number in (signal.SIGINT, signal.SIGTERM):
-            signal.signal(number, signal.SIG_IGN)
-
-
 @contextlib.contextmanager
 def _published(given: argparse.Namespace) -> Iterator[Optional[notices.Publisher]]:
     """What tells of blocks, where that is asked for."""
@@ -364,7 +340,7 @@ def _published(given: argparse.Namespace) -> Iterator[Optional[notices.Publisher
         publisher.close()
 
 
-def _run(given: argparse.Namespace, folder: Optional[Folder], cookies: List[Tuple[str, str]], signals: _Signals) -> None:
+def _run(given: argparse.Namespace, folder: Optional[Folder], cookies: List[Tuple[str, str]], signals: Signals) -> None:
     """Serves until the end. The cookies that are written are added."""
     gate, has_cookie = _gate(given)
     with _published(given) as publisher, _bench(given, folder) as bench:
@@ -400,7 +376,7 @@ def _run(given: argparse.Namespace, folder: Optional[Folder], cookies: List[Tupl
 
 def main(words: Optional[Sequence[str]] = None) -> None:
     """The command, which takes SIGINT and SIGTERM."""
-    signals = _Signals()
+    signals = Signals()
     cookies: List[Tuple[str, str]] = []
     try:
         given = _given(sys.argv[1:] if words is None else words)
