@@ -18,6 +18,8 @@ from wakotehu.encoding import Input, Output, Transaction, write_transaction
 #: How long the end may take, in seconds: of a server that is busy, on a machine that may be.
 END = 1.0
 TERM, INT = signal.SIGTERM, signal.SIGINT
+#: A key of the curve: its generator.
+KEY = "0279be667ef9dcbbac55a06295ce870b07029bfcdb2dce28d959f2815b16f81798"
 
 
 class StopTest(test_datadir.FolderCase):
@@ -52,7 +54,7 @@ class StopTest(test_datadir.FolderCase):
         many = [f"raw({place:08x})" for place in range(600_000)]
         for method, params in (
             ("generatetoaddress", (30_000, spelled(196, bytes(20)))), ("waitforblock", ("11" * 32,)), ("waitfornewblock", ()),
-            ("waitforblockheight", (10**6, 60_000)), ("scantxoutset", ("start", many)), ("getdescriptorinfo", ("raw(" * 7_000_000,)),
+            ("waitforblockheight", (10**6, 60_000)), ("scantxoutset", ("start", many)), ("getdescriptorinfo", (f"multi(1{f',{KEY}' * 400_000})",)),
         ):  # fmt: skip
             for signals in ((TERM,), (TERM, TERM), (INT, TERM)):
                 with self.subTest(f"{method} {len(signals)}"):
