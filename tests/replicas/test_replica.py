@@ -250,6 +250,13 @@ class CommandLine(ReplicaTest):
             self.assertEqual(file.read(), bytes.fromhex("fabfb5da") + len(block).to_bytes(4, "little") + block)
         again = self.command("export", self.url, folder)
         self.assertEqual((again.returncode, "has a journal" in again.stderr), (1, True))
+        # A pipe in a file's place isn't waited for.
+        for name in ("heights.txt", "blocks.blk", "table.txt"):
+            other = os.path.join(self.room, name[:5])
+            os.mkdir(other)
+            os.mkfifo(os.path.join(other, name))
+            again = self.command("export", self.url, other)
+            self.assertEqual((again.returncode, name in again.stderr), (1, True))
         ended = subprocess.run([running.PROGRAM, "serve", "--load", folder], stdin=subprocess.DEVNULL, capture_output=True, timeout=30)
         self.assertEqual((ended.returncode, ended.stderr), (0, b""))
 

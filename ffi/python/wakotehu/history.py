@@ -17,10 +17,10 @@ LOG = "history.log"
 VERDICTS = ("valid", "invalid")
 
 
-def regular(path: str, flags: int) -> int:
-    """An opener for `open`: of a regular file, or of a link to one. `OSError` of another one, as of a pipe nobody writes to, which
+def regular(path: str, flags: int, mode: int = 0o600) -> int:
+    """An opener for `open`: of a regular file, or of a link to one; `mode` is that of one that is made. `OSError` of another one, as of a pipe nobody writes to, which
     would be waited for, and of a device, which may have no end."""
-    number = os.open(path, flags | os.O_NONBLOCK, 0o600)
+    number = os.open(path, flags | os.O_NONBLOCK, mode)
     if stat.S_ISREG(os.fstat(number).st_mode):
         return number
     os.close(number)
