@@ -2,6 +2,10 @@
 
 import atexit
 import signal
+import sys
+
+#: How long a thread runs at the end before another one may, in seconds.
+SWITCH = 0.0002
 
 
 class Signals:
@@ -17,6 +21,8 @@ class Signals:
 
     def _note(self, number: int, frame: object) -> None:
         is_first, self.came = not self.came, True
+        # So that threads which go on let the end come soon: each waits for them some dozens of times.
+        sys.setswitchinterval(SWITCH)
         if is_first and self.raises:
             raise KeyboardInterrupt
 
