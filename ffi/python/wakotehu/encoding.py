@@ -139,16 +139,6 @@ class _Reader:
         self.at += 1
         return first if first < 253 else self.number({253: 2, 254: 4, 255: 8}[first])
 
-    def text(self) -> bytes:
-        data, begin = self.data, self.at + 1
-        length = data[begin - 1] if begin <= len(data) else 253
-        if length > 252:
-            return self.take(self.count())
-        self.at = begin + length
-        if self.at > len(data):
-            raise EncodingError("the bytes end early")
-        return data[begin : self.at]
-
     def transaction(self) -> Transaction:
         version = self.number(4, signed=True)
         try:
