@@ -2,6 +2,7 @@
 from __future__ import annotations
 
 import os
+import random
 import signal
 import subprocess
 import sys
@@ -249,6 +250,13 @@ class CommandLine(ReplicaTest):
             self.assertEqual(file.read(), bytes.fromhex("fabfb5da") + len(block).to_bytes(4, "little") + block)
         again = self.command("export", self.url, folder)
         self.assertEqual((again.returncode, "has a journal" in again.stderr), (1, True))
+        # A pipe in a file's place isn't waited for.
+        for name in ("heights.txt", "blocks.blk", "table.txt"):
+            other = os.path.join(self.room, name[:5])
+            os.mkdir(other)
+            os.mkfifo(os.path.join(other, name))
+            again = self.command("export", self.url, other)
+            self.assertEqual((again.returncode, name in again.stderr), (1, True))
         ended = subprocess.run([running.PROGRAM, "serve", "--load", folder], stdin=subprocess.DEVNULL, capture_output=True, timeout=30)
         self.assertEqual((ended.returncode, ended.stderr), (0, b""))
 
@@ -285,6 +293,24 @@ class CommandLine(ReplicaTest):
         process.send_signal(signal.SIGTERM)
         out, err = process.communicate(timeout=30)
         self.assertEqual((process.returncode, err), (0, ""))
+
+    def test_follow_ends_in_order(self) -> None:
+        """Within a second, whatever signals come until it has ended."""
+        self.history()
+        environment = {**os.environ, "PYTHONPATH": os.path.join(HERE, "../../ffi/python"), "WAKOTEHU_PROGRAM": running.PROGRAM}
+        words = [sys.executable, "-m", "wakotehu.replicacommand", "follow", self.url]
+        chance = random.Random(85)
+        for number in range(12):
+            process = subprocess.Popen(words, stdout=subprocess.PIPE, stderr=subprocess.PIPE, text=True, env=environment)
+            self.addCleanup(process.kill)
+            assert process.stdout is not None
+            process.stdout.readline()
+            begun = time.monotonic()
+            for _ in range(4):
+                process.send_signal(chance.choice((signal.SIGTERM, signal.SIGINT)))
+                time.sleep(chance.random() * 0.08)
+            self.assertEqual((process.communicate(timeout=30)[1], process.returncode), ("", 0), number)
+            self.assertLess(time.monotonic() - begun, 1)
 
 
 if __name__ == "__main__":

@@ -1,12 +1,16 @@
 """Rows that no replica writes, rows that were changed, and databases that refuse, or may lose what they have confirmed."""
 from __future__ import annotations
 
+import os
+import subprocess
+import sys
 import unittest
 import uuid
 from typing import Any, Callable
 
 import psycopg
-from cases import NOW, ReplicaTest
+import running
+from cases import HERE, NOW, ReplicaTest
 from database import Database
 from wakotehu import errors
 from wakotehu.encoding import GENESIS
@@ -163,6 +167,37 @@ class Databases(ReplicaTest):
             with self.assertRaisesRegex(errors.NotDurable, f"{setting} = off"):
                 self.replica("one", url=url)
             self.replica("two", url=url, durable=False).close()
+
+    def test_a_table_that_a_crash_empties(self) -> None:
+        """An unlogged one."""
+        self.history()
+        self.database.run(self.url, "ALTER TABLE wakotehu.commands SET UNLOGGED")
+        with self.assertRaisesRegex(errors.NotDurable, "wakotehu.commands is unlogged"):
+            self.replica("one")
+        self.replica("two", durable=False).close()
+        self.database.run(self.url, "ALTER TABLE wakotehu.commands SET LOGGED")
+        self.replica("three").close()
+
+    def test_commands_by_option(self) -> None:
+        """`wakotehu-replica follow` and the server name the setting and end, unless their option says that it is known."""
+        self.history()
+        [(name,)] = self.database.run(self.url, "SELECT current_database()")
+        self.database.run(self.url, f"ALTER DATABASE {name} SET synchronous_commit = off")
+        environment = {**os.environ, "PYTHONPATH": os.path.join(HERE, "../../ffi/python"), "WAKOTEHU_PROGRAM": running.PROGRAM}
+        follow = [sys.executable, "-m", "wakotehu.replicacommand", "follow", self.url]
+        serve = [sys.executable, "-m", "wakotehu.server", f"-replica={self.url}", "-rpcport=0", "-no-auth"]
+        for words, option in ((follow, "--not-durable"), (serve, "-replica-not-durable")):
+            with self.subTest(words[2]):
+                ended = subprocess.run(words, capture_output=True, text=True, env=environment, timeout=60)
+                self.assertEqual((ended.returncode, "synchronous_commit = off" in ended.stderr), (1, True), ended.stderr)
+                self.assertNotIn("Traceback", ended.stderr)
+                process = subprocess.Popen([*words, option], stdout=subprocess.PIPE, text=True, env=environment)
+                self.addCleanup(process.kill)
+                assert process.stdout is not None
+                # Each says where it is once it is open.
+                self.assertNotEqual(process.stdout.readline(), "")
+                process.terminate()
+                process.communicate(timeout=60)
 
     def test_a_refusal_is_an_error_of_the_package(self) -> None:
         """No rights, and a database's own limit of time."""

@@ -2,6 +2,7 @@
 from __future__ import annotations
 
 import time
+import unittest
 from typing import Any
 
 from blocks import GENESIS as GENESIS_BYTES
@@ -10,6 +11,7 @@ from serving import GENESIS, Names, Served, request, play
 
 DEFINITIONS = "block b1 genesis\nblock p2 b1\nblock q2 b1\nblock q3 q2\nblock q4 q3\n"
 PARENTS = dict(line.split()[1:3] for line in DEFINITIONS.splitlines())
+KEPT = "block b1 genesis\nblock x b1 reward=5000000001\nblock y x\nblock b2 b1\nblock b3 b2\n"
 SPENDS = """chain c 100 genesis
 tx A 1 0
 in c1.cb:0 -
@@ -155,6 +157,25 @@ class Lookups(ProgramTest):
         self.submit("q2")
         self.served.ask("told", seat=1, **{"from": 0})
         self.assertEqual(self.ask("getblock", 3, id=self.names.ids["q2"]), orphan.hex())
+
+    # Its tree is made of the replies: of a refused block these don't say whether it is kept. It has to be the chainstate's own.
+    @unittest.expectedFailure
+    def test_each_kept_block(self) -> None:
+        """Those that were refused over the coins, too, and what is on them: such a tip is shown, so its blocks are."""
+        names = Names(self.folder, KEPT)
+        for name, answer in (("b1", "accepted"), ("x", "bad-cb-amount"), ("b2", "accepted"), ("b3", "accepted")):
+            self.assertEqual(self.served.ask("submit", seat=0, block=names.data[name].hex(), now=NOW)["answer"], answer)
+        self.served.ask("reconsider", seat=0, id=names.ids["x"])
+        result = self.served.ask("submit", seat=0, block=names.data["y"].hex(), now=NOW)
+        self.assertEqual(result, {"at": 6, "answer": "inconclusive"})
+        self.served.ask("told", seat=1, **{"from": 0})
+        self.assertIn(names.ids["y"], [tip["hash"] for tip in self.served.ask("getchaintips", seat=1)["answer"]])
+        for height, name in ((2, "x"), (3, "y")):
+            id, data = names.ids[name], names.data[name].hex()
+            self.assertEqual(self.ask("getblock", 6, id=id), data)
+            self.assertEqual(self.ask("getblockheader", 6, id=id), {"header": data[:160], "height": height, "confirmations": -1})
+            self.assertEqual(self.ask("getancestor", 6, id=id, height=2), {"hash": names.ids["x"]})
+            self.assertEqual(self.ask("getfork", 6, id=id, other=names.ids["b3"]), {"hash": names.ids["b1"]})
 
     def test_coins(self) -> None:
         """Pages by rising outpoints, ordered by the bytes of ids as they are hashed."""

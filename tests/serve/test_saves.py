@@ -2,11 +2,12 @@
 from __future__ import annotations
 
 import os
+import signal
 import subprocess
 from typing import Any
 
 import running
-from running import ProgramTest
+from running import ROOT, ProgramTest
 from serving import GENESIS, Names, Served
 
 DEFINITIONS = "block b1 genesis\nblock p2 b1\n"
@@ -80,6 +81,21 @@ class Saves(ProgramTest):
         self.assertEqual(again.answer("finish")["result"], {"at": 2})
         self.assertEqual(again.end(), (0, ""))
         self.assertEqual(len(self.read("saved/journal.txt").splitlines()), 2)
+
+    def test_a_signal_saves_nothing(self) -> None:
+        """With `--save` alone: what is there stays, as the page says first."""
+        for number in (signal.SIGTERM, signal.SIGINT, signal.SIGHUP):
+            folder = f"saved{number}"
+            self.make_folder(folder)
+            served = self.serve("--save", folder)
+            self.assertEqual(self.submit(served, "b1", 0), "accepted")
+            self.assertEqual(served.ask("save"), {"at": 1})
+            self.assertEqual(self.submit(served, "p2", 0), "accepted")
+            served.process.send_signal(number)
+            self.assertEqual(served.process.wait(running.SECONDS), -number)
+            self.assertEqual(len(self.read(f"{folder}/journal.txt").splitlines()), 1)
+        with open(os.path.join(ROOT, "docs/SERVE.md"), encoding="utf-8") as file:
+            self.assertIn("and `--save` saves nothing then; with `--datadir` nothing that was answered is lost", file.read(1000))
 
     def test_saves_between_requests(self) -> None:
         """Requests of all seats around many saves are each answered, in their order; one that waits is answered then."""

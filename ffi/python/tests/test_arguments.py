@@ -362,7 +362,7 @@ ROWS = [
 #: needs a database (tests/replicas has its arguments); what pytest calls (test_testing has its own).
 OTHER = {
     "ahead", "arguments", "asyncreplica", "benches", "errors", "explain", "extendedkeys", "filters", "following", "history", "index", "mempool",
-    "nodebench", "pipe", "processor", "replacing", "replica", "replicabench", "replicacommand", "replicalog", "replication", "server", "stage", "testing", "vectors",
+    "nodebench", "pipe", "processor", "replacing", "replica", "replicabench", "replicacommand", "replicalog", "replication", "server", "stage", "stopping", "testing", "vectors",
     "version", "__main__",
 }  # fmt: skip
 #: What other modules of the package call with what was taken before.

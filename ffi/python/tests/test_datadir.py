@@ -169,6 +169,46 @@ class FolderCase(unittest.TestCase):
 
 
 class FolderTest(FolderCase):
+    def test_what_is_no_regular_file(self):
+        """A pipe nobody writes to, or a device that has no end, in the place of any file of the folder: nothing waits for it."""
+        ended = self.started()
+        ended.end(signal.SIGTERM)
+        self.ended()
+        for name in (".lock", "bitcoin.conf", "node/lock", "node/heights.txt", "node/history.log"):
+            for device in (None, "/dev/full", "/dev/zero"):
+                with self.subTest(name, device=device):
+                    path = self.other(name, device)
+                    done = subprocess.run(
+                        [sys.executable, "-m", "wakotehu.server", "-rpcport=0", f"-datadir={self.folder}"], capture_output=True,
+                        text=True, timeout=20, env={**os.environ, "WAKOTEHU_PROGRAM": PROGRAM},
+                    )  # fmt: skip
+                    self.assertIn(done.returncode, (1, 2))
+                    self.assertRegex(done.stderr, "not a regular file|Too many levels of symbolic links")
+                    self.assertNotIn("Traceback", done.stderr)
+                    os.remove(path)
+                    if os.path.exists(f"{path}.kept"):
+                        os.rename(f"{path}.kept", path)
+        for name, device in (("mempool.dat", None), ("mempool.dat", "/dev/zero"), ("mempool.dat.new", None)):
+            with self.subTest(name, device=device):
+                path = self.other(name, device)
+                server = self.started()
+                server.process.send_signal(signal.SIGTERM)
+                told = server.process.communicate(timeout=20)[1]
+                self.assertRegex(told, r"mempool\.dat can't be read, and nothing waits: .*not a regular file|No such device or address")
+                self.assertTrue(name.endswith("new") or os.path.isfile(path))
+                os.remove(path)
+
+    def other(self, name, device):
+        """Puts a pipe, or a link to a device, in the place of a file of the folder."""
+        path = os.path.join(self.folder, name)
+        if os.path.lexists(path):
+            os.rename(path, f"{path}.kept")
+        if device:
+            os.symlink(device, path)
+        else:
+            os.mkfifo(path)
+        return path
+
     def test_commands_are_taken_again_after_a_kill(self):
         server = self.started()
         before = self.played(server)

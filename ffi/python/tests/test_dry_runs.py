@@ -253,7 +253,7 @@ class ReadOnceTest(Blocks):
             read.reset_mock()
             shown = self.call("getblock", told["hash"], 2)
             self.assertEqual(read.call_count, 1)
-        with mock.patch.object(rpc_stats, "outline", wraps=rpc_stats.outline) as read:
+        with mock.patch.object(rpc_stats, "outputs", wraps=rpc_stats.outputs) as read:
             stats = self.call("getblockstats", told["hash"])
             self.assertEqual(read.call_count, 1)
         self.assertEqual([tx.get("fee") for tx in shown["tx"]], [None] + [0.00000999] * 1000)

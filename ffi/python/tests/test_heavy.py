@@ -1,6 +1,7 @@
 """Requests that are long: each takes no more than so much of the processor, and holds up nobody."""
 
 import json
+import random
 import threading
 import time
 import unittest
@@ -8,7 +9,8 @@ import unittest
 from blocks import Maker, block_id, spend
 from servers import Running
 from wakotehu import show
-from wakotehu.encoding import GENESIS, GENESIS_BLOCK, Input, Output, Transaction, write_transaction
+from wakotehu.encoding import GENESIS, GENESIS_BLOCK, Input, Output, Transaction, coinbase, mine, write_transaction
+from wakotehu.rpc import outlines
 from wakotehu.rpc.jsonrpc import MAX_DEPTH, answer
 
 #: How many seconds a read waits at most that another connection makes meanwhile.
@@ -121,6 +123,29 @@ class HeavyTest(unittest.TestCase):
             params = b"[" * depth + rb'"]]\\\"[["' + b"]" * depth
             answered = json.loads(answer(lambda method, params: 0, b'{"method": "echo", "params": ' + params + b"}")[1])
             self.assertEqual((answered["error"] or {}).get("code"), code)
+
+
+class OutlinesTest(unittest.TestCase):
+    """Outlines of a block are those of its transactions as they are read whole."""
+
+    def test_random_blocks(self):
+        chance = random.Random(3)
+
+        def script():
+            return chance.randbytes(chance.choice((0, 1, 25, 252, 253, 300, 65_535, 65_536)))
+
+        for _ in range(100):
+            inputs = [Input(chance.randbytes(32), chance.randrange(2**32), script(), 0) for _ in range(chance.choice((1, 2, 260)))]
+            outputs = [Output(chance.randrange(2**50), script()[:400]) for _ in range(chance.choice((1, 2, 300)))]
+            txs = [coinbase(1, 50, b"\x51", b"\0"), Transaction(1, inputs, outputs, 0)]
+            found = outlines.outlines(mine(GENESIS.id, GENESIS.time, txs))
+            self.assertEqual(len(found), 2)
+            for tx, own in zip(txs, found):
+                data = write_transaction(tx)
+                sizes = [len(write_transaction(Transaction(1, [], [out], 0))) - 18 for out in tx.outputs]
+                self.assertEqual(own[:3], (len(data), [(it.id, it.index) for it in tx.inputs], len(tx.outputs)))
+                self.assertEqual(own[3:], (sum(it.value for it in tx.outputs), sum(sizes)))
+                self.assertEqual(outlines.outputs(data), [(it.value, size) for it, size in zip(tx.outputs, sizes)])
 
 
 class TwiceTest(unittest.TestCase):

@@ -9,8 +9,9 @@ from typing import Dict, List, NamedTuple, Tuple
 
 import peers
 from blocks import NOW, Maker, block_id
+from servers import PROGRAM, Running
 from trees import SCRIPTS, SPENDS_NONE, WORK, Tree
-from wakotehu import Bench, Chainstate, Coin, errors, read_id, show
+from wakotehu import Bench, Chainstate, Coin, Node, errors, read_id, show
 from wakotehu.chainstate import BlockHeader
 from wakotehu.encoding import (
     GENESIS, GENESIS_BLOCK, Header, Input, Output, Transaction, coinbase, double_sha, merkle_root, read_block, subsidy,
@@ -435,6 +436,62 @@ class LookupsTest(unittest.TestCase):
         failed, tried = doctest.testfile(path, module_relative=False, globs=given)
         self.assertEqual(failed, 0)
         self.assertGreater(tried, 8)
+
+
+class KeptTest(unittest.TestCase):
+    """Each block that is kept is found at each door: one that was refused over the coins, and what is on it, too."""
+
+    def setUp(self):
+        maker = Maker()
+        self.b1 = maker.block(GENESIS.id)
+        self.x = maker.block(block_id(self.b1), more=1)
+        self.y = maker.block(block_id(self.x))
+        b2 = maker.block(block_id(self.b1))
+        self.b3 = maker.block(block_id(b2))
+        self.steps = [(self.b1, "accepted"), (self.x, "bad-cb-amount"), (b2, "accepted"), (self.b3, "accepted")]
+
+    def play(self, submit, reconsider):
+        for block, answer in self.steps:
+            self.assertEqual(submit(block), answer)
+        reconsider(block_id(self.x))
+        self.assertEqual(submit(self.y), "inconclusive")
+
+    def expect(self, tips, block, header, ancestor, fork):
+        x, y, b1, b3 = map(block_id, (self.x, self.y, self.b1, self.b3))
+        self.assertEqual([(tip.id, tip.status) for tip in tips if tip.id != b3], [(y, "valid-headers")])
+        for id, data, height in ((x, self.x, 2), (y, self.y, 3)):
+            self.assertEqual(block(id), data)
+            self.assertEqual(header(id), (data[:80], height, -1))
+            self.assertEqual([ancestor(id, at) for at in range(height + 2)], [GENESIS.id, b1, x, y][: height + 1] + [None])
+            self.assertEqual((fork(id, b3), fork(b3, id), fork(x, id)), (b1, b1, x))
+
+    def test_a_chainstate_and_a_bench(self):
+        for kind in (Chainstate, Bench):
+            with self.subTest(kind.__name__), kind() as own:
+                self.play(lambda block: own.try_submit(block, NOW).text, own.reconsider)
+                self.expect(own.tips(), own.block, own.header, own.ancestor, own.fork)
+
+    # A served node's tree is made of the replies, which don't say whether a refused block is kept (tests/serve/test_lookups.py).
+    @unittest.expectedFailure
+    def test_a_node(self):
+        with Node(program=PROGRAM) as node:
+            seat = node.seats[0]
+            self.play(lambda block: seat.try_submit(block, NOW).value.text, seat.reconsider)
+            calls = (seat.getblock, seat.getblockheader, seat.getancestor, seat.getfork)
+            self.expect(seat.getchaintips().value, *(lambda *words, call=call: call(*words).value for call in calls))
+
+    def test_the_server(self):
+        running = Running()
+        self.addCleanup(running.stop)
+        call = running.call
+        self.play(lambda block: call("submitblock", block.hex()) or "accepted", lambda id: call("reconsiderblock", show(id)))
+        x, y = show(block_id(self.x)), show(block_id(self.y))
+        self.assertIn({"height": 3, "hash": y, "branchlen": 2, "status": "valid-headers"}, call("getchaintips"))
+        for id, data, height, parent in ((x, self.x, 2, show(block_id(self.b1))), (y, self.y, 3, x)):
+            self.assertEqual(call("getblock", id, 0), data.hex())
+            shown = call("getblockheader", id)
+            self.assertEqual((shown["height"], shown["confirmations"], shown["previousblockhash"]), (height, -1, parent))
+            self.assertEqual(call("getblock", id)["nTx"], 1)
 
 
 if __name__ == "__main__":

@@ -21,6 +21,22 @@ from wakotehu.rpc import datadir
 
 FILES = ["blocks.blk", "heights.txt", "journal.txt", "table.txt"]
 COMMANDS = 111
+#: The server's command, which waits for ever where so many blocks, its first word, were submitted.
+WAITING = """
+import sys, time
+from wakotehu import nodebench, server
+
+own, left = nodebench.NodeBench.try_submit, [int(sys.argv[1])]
+
+def taken(*words):
+    while not left[0]:
+        time.sleep(1)
+    left[0] -= 1
+    return own(*words)
+
+nodebench.NodeBench.try_submit = taken
+server.main(sys.argv[2:])
+"""
 
 
 class Crash(BaseException):
@@ -240,38 +256,36 @@ class CrashTest(OldFilesCase):
 
     def test_while_commands_are_taken(self):
         """The server is killed when the new log has some of the commands, twice; then it is left alone."""
-        begun, blocks = os.path.join(self.folder, "node.begun", "history.log"), self.path("blocks.blk")
-        data = self.read(blocks)
+        begun = os.path.join(self.folder, "node.begun", "history.log")
         for count in (5, 60):
-            os.remove(blocks)
-            # The server waits for the rest.
-            os.mkfifo(blocks)
-            process = self.begun()
-            with open(blocks, "wb") as file:
-                file.write(data[: self.length(data, count)])
-                file.flush()
-                self.wait_until(lambda: os.path.exists(begun) and self.read(begun).count(b"\n") == count)
-                process.kill()
-                process.communicate(timeout=10)
+            process = self.begun(count)
+            self.wait_until(lambda: os.path.exists(begun) and self.read(begun).count(b"\n") == count)
+            process.kill()
+            process.communicate(timeout=10)
             self.assertFalse(os.path.exists(self.node))
-        os.remove(blocks)
-        self.write("blocks.blk", data)
         self.assertEqual(self.opened(), (COMMANDS, self.files.shown[0]))
         self.expect_moved()
 
-    def begun(self):
-        command = [sys.executable, "-m", "wakotehu.server", "-rpcport=0", f"-datadir={self.folder}"]
+    def test_what_is_no_regular_file(self):
+        """A pipe nobody writes to is refused, whichever file's place it has."""
+        for name in FILES:
+            with self.subTest(name):
+                os.rename(self.path(name), self.path("kept"))
+                os.mkfifo(self.path(name))
+                with self.assertRaisesRegex(OSError, "not a regular file"):
+                    self.opened()
+                os.rename(self.path("kept"), self.path(name))
+        self.assertEqual(self.opened(), (COMMANDS, self.files.shown[0]))
+
+    def begun(self, count):
+        """A server that waits when it has taken so many blocks again."""
         environment = {**os.environ, "WAKOTEHU_PROGRAM": PROGRAM}
-        process = subprocess.Popen(command, stdout=subprocess.PIPE, stderr=subprocess.PIPE, env=environment)
+        process = subprocess.Popen(
+            [sys.executable, "-c", WAITING, f"{count}", "-rpcport=0", f"-datadir={self.folder}"], stdout=subprocess.PIPE,
+            stderr=subprocess.PIPE, env=environment,
+        )  # fmt: skip
         self.addCleanup(process.kill)
         return process
-
-    def length(self, blocks, count):
-        """How many bytes the first records have."""
-        place = 0
-        for _ in range(count):
-            place += 8 + int.from_bytes(blocks[place + 4 : place + 8], "little")
-        return place
 
     def wait_until(self, is_so):
         until = time.monotonic() + 30

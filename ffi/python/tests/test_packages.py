@@ -5,7 +5,9 @@ import os
 import signal
 import struct
 import tempfile
+import threading
 import unittest
+import unittest.mock
 
 from blocks import spend
 from mempool_steps import COIN, LAST
@@ -56,6 +58,14 @@ class TogetherTest(Waiting):
                 continue
             message = "package topology disallowed. not child-with-parents or parents depend on each other."
             self.assertEqual(self.call("submitpackage", raw(self.spends(self.coins[5]), second)), {"code": -25, "message": message})
+
+    def test_a_coin_that_one_spends_twice(self):
+        """By inputs that differ: it is refused by itself, as by litecoind, and is no conflict of several."""
+        inputs = [Input(self.coins[0], 0, b"", LAST), Input(self.coins[0], 0, b"", LAST - 1)]
+        twice, other = Transaction(2, inputs, [Output(COIN, b"\x51")], 0), self.spends(self.coins[1])
+        refused = {"txid": show(twice.id), "allowed": False, "reject-reason": "bad-txns-inputs-duplicate"}
+        self.assertEqual(self.asked(twice), [refused])
+        self.assertEqual(self.asked(twice, other), [refused, {"txid": show(other.id)}])
 
     def test_together_none_is_replaced(self):
         first = Transaction(2, [Input(self.coins[0], 0, b"", LAST - 2)], [Output(49 * COIN, b"\x51")], 0)
@@ -220,6 +230,18 @@ class FileTest(Waiting):
             self.assertEqual(os.stat(path).st_mode & 0o777, 0o600)
             node.saves_to = os.path.join(folder, "none", "mempool.dat")
             self.assertEqual(self.call("savemempool"), {"code": -1, "message": "Unable to dump mempool to disk"})
+
+    def test_others_go_on_while_the_disk_is_waited_for(self):
+        begun, ends = threading.Event(), threading.Event()
+        self.running.node.saves_to = "mempool.dat"
+        with unittest.mock.patch.object(saved, "_write", side_effect=lambda path, data: begun.set() or ends.wait(30)):
+            thread = threading.Thread(target=self.call, args=("savemempool",))
+            thread.start()
+            self.assertTrue(begun.wait(10))
+            self.send(self.spends(self.coins[0], 49 * COIN))
+            self.assertTrue(thread.is_alive())
+            ends.set()
+            thread.join()
 
     def test_no_folder(self):
         self.assertEqual(self.call("savemempool"), {"code": -1, "message": "Unable to dump mempool to disk"})

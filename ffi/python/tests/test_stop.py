@@ -11,11 +11,15 @@ import unittest
 
 import test_datadir
 from servers import PROGRAM
+from wakotehu import read_id
 from wakotehu.addresses import spelled
+from wakotehu.encoding import Input, Output, Transaction, write_transaction
 
 #: How long the end may take, in seconds: of a server that is busy, on a machine that may be.
 END = 1.0
 TERM, INT = signal.SIGTERM, signal.SIGINT
+#: A key of the curve: its generator.
+KEY = "0279be667ef9dcbbac55a06295ce870b07029bfcdb2dce28d959f2815b16f81798"
 
 
 class StopTest(test_datadir.FolderCase):
@@ -50,7 +54,7 @@ class StopTest(test_datadir.FolderCase):
         many = [f"raw({place:08x})" for place in range(600_000)]
         for method, params in (
             ("generatetoaddress", (30_000, spelled(196, bytes(20)))), ("waitforblock", ("11" * 32,)), ("waitfornewblock", ()),
-            ("waitforblockheight", (10**6, 60_000)), ("scantxoutset", ("start", many)), ("getdescriptorinfo", ("raw(" * 7_000_000,)),
+            ("waitforblockheight", (10**6, 60_000)), ("scantxoutset", ("start", many)), ("getdescriptorinfo", (f"multi(1{f',{KEY}' * 400_000})",)),
         ):  # fmt: skip
             for signals in ((TERM,), (TERM, TERM), (INT, TERM)):
                 with self.subTest(f"{method} {len(signals)}"):
@@ -94,6 +98,34 @@ class StopTest(test_datadir.FolderCase):
             self.assertLess(time.monotonic() - began, END)
             self.assertEqual((process.returncode, told[1]), (0, ""))
         self.assertEqual(self.started().call("getblockcount"), 3000)
+
+    def test_while_what_waited_is_judged_again(self):
+        """The file of what waits stays as it is, until a server has looked at all of it."""
+        server, count = self.started(), 5000
+        server.call("generatetodescriptor", 101, "raw(51)")
+        coin = read_id(server.call("getblock", server.call("getblockhash", 1))["tx"][0])
+        fan = Transaction(1, [Input(coin, 0, b"", 0)], [Output(1000, b"\x51")] * count, 0)
+        server.call("generateblock", "raw(51)", [write_transaction(fan).hex()])
+        spends = (Transaction(1, [Input(fan.id, place, b"", 0)], [Output(0, b"\x51")], 0) for place in range(count))
+        sent = [write_transaction(tx).hex() for tx in spends]
+        for begin in range(0, count, 500):
+            server.call_each("sendrawtransaction", sent[begin : begin + 500])
+        self.assertLess(self.ended(server, TERM), END)
+        path = os.path.join(self.folder, "mempool.dat")
+        size = os.path.getsize(path)
+        chance = random.Random(9)
+        for number in range(4):
+            process = self.command()
+            # It says this before it judges what waited.
+            self.assertIn("were taken again", process.stdout.readline())
+            time.sleep(chance.random() * 0.5)
+            began = time.monotonic()
+            for signals in (TERM, INT)[number % 2 :]:
+                process.send_signal(signals)
+            told = process.communicate(timeout=60)
+            self.assertLess(time.monotonic() - began, END)
+            self.assertEqual((process.returncode, *told, os.path.getsize(path)), (0, "", "", size))
+        self.assertEqual(self.started().call("getmempoolinfo")["size"], count)
 
     @staticmethod
     def has_begun(process):

@@ -227,6 +227,14 @@ class VerdictsTest(unittest.TestCase):
                 by_ctypes(Verifier)
 
 
+    def test_an_unusable_libsecp256k1_is_named(self):
+        """A library of that name which lacks its calls."""
+        with mock.patch.object(signatures.ctypes.util, "find_library", lambda _: "libc.so.6"):
+            for make in (Verifier, Bench):
+                with self.assertRaisesRegex(OSError, "libsecp256k1 can't be used: .*secp256k1_context_create"):
+                    by_ctypes(make)
+
+
 class BlocksTest(unittest.TestCase):
     """Benches of several threads, and one without the library, beside one of one thread, over the same blocks."""
 

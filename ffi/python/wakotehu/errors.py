@@ -85,7 +85,8 @@ class DatabaseRefused(Error):
 
 
 class NotDurable(Error):
-    """The database may lose rows that it has confirmed, by its settings (`fsync`, `full_page_writes`, `synchronous_commit`)."""
+    """The database may lose rows that it has confirmed, by its settings (`fsync`, `full_page_writes`, `synchronous_commit`) or by an
+    unlogged table."""
 
 
 class ReadOnly(Error):

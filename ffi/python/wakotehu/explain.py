@@ -17,7 +17,7 @@ from .coinset import CoinSet, Fault
 from .consensus import ScriptError, Triple
 from .encoding import GENESIS, double_sha, read_block, read_header, write_transaction
 from .errors import Error, Wants
-from .history import LOG, VERDICTS, steps_of
+from .history import LOG, VERDICTS, regular, steps_of
 
 #: Of so many blocks the median time past is the median.
 SPAN = 11
@@ -80,7 +80,7 @@ class SavedRun:
     def _read(self, name: str) -> bytes:
         if not self._exists(name):
             return b""
-        with open(self._path(name), "rb") as file:
+        with open(self._path(name), "rb", opener=regular) as file:
             return file.read()
 
     def _lines(self, name: str) -> List[bytes]:

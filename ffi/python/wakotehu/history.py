@@ -1,7 +1,10 @@
 """The log of a node whose history is kept, `history.log` in the folder of `Node(datadir=..)`: its steps, and what they tell
 of blocks and signatures. docs/SERVE.md says what a line has."""
 
+import errno
 import gc
+import os
+import stat
 from binascii import unhexlify
 from typing import Dict, Iterator, NamedTuple, Sequence
 
@@ -14,6 +17,16 @@ LOG = "history.log"
 VERDICTS = ("valid", "invalid")
 
 
+def regular(path: str, flags: int, mode: int = 0o600) -> int:
+    """An opener for `open`: of a regular file, or of a link to one; `mode` is that of one that is made. `OSError` of another one, as of a pipe nobody writes to, which
+    would be waited for, and of a device, which may have no end."""
+    number = os.open(path, flags | os.O_NONBLOCK, mode)
+    if stat.S_ISREG(os.fstat(number).st_mode):
+        return number
+    os.close(number)
+    raise OSError(errno.EINVAL, "not a regular file", path)
+
+
 class Logged(NamedTuple):
     """A step. `rest` is a submission's block in hexadecimal, a verdict's signature as a line of a table, else nothing."""
 
@@ -24,7 +37,7 @@ class Logged(NamedTuple):
 
 def steps_of(path: str) -> Iterator[Logged]:
     """The steps of a log, as far as its lines are whole. One that can't be read is a `ValueError`."""
-    with open(path, "rb") as file:
+    with open(path, "rb", opener=regular) as file:
         for place, line in enumerate(file, 1):
             if not line.endswith(b"\n") or b"\0" in line:
                 return

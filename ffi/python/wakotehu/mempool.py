@@ -169,8 +169,8 @@ class Waiting:
 
     def conflicts(self, tx: Transaction) -> List[bytes]:
         """Those that spend a coin that a transaction spends."""
-        found = (self.spenders.get((spends.id, spends.index)) for spends in tx.inputs)
-        return list(dict.fromkeys(it for it in found if it is not None))
+        found = map(self.spenders.get, [spends[:2] for spends in tx.inputs])
+        return list(dict.fromkeys(filter(None, found)))
 
     def paid(self, entry: Entry) -> int:
         """The fee of one, with what miners are asked to add to it."""

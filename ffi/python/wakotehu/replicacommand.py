@@ -6,21 +6,23 @@
 
 import argparse
 import os
-import signal
 import subprocess
 import sys
 import tempfile
 import time
+from functools import partial
 from typing import IO, Dict, List, Optional, Sequence, Union
 
 from . import arguments, errors
 from .chainstate import REGTEST, read_heights, show
 from .encoding import double_sha
 from .following import call_of, read_verdicts
+from .history import regular
 from .replica import Replica
 from .replicalog import FORMAT, Log, Lost, Refused, Row, Told
 from .served import program_path
 from .signatures import secp256k1
+from .stopping import Signals
 
 #: Regtest's mark before a record of a blk file.
 _MAGIC = bytes.fromhex("fabfb5da")
@@ -46,6 +48,10 @@ def prepare(
         raise errors.NoHistory("the database has a history under other rules")
 
 
+#: Opens the files of an export, which others may read.
+_opened = partial(regular, mode=0o666)
+
+
 class Exported:
     """The files of a run (docs/PROGRAM.md), as a log's rows are written into them."""
 
@@ -59,10 +65,10 @@ class Exported:
     def write(self, log: Log) -> None:
         """Writes all files; the journal last."""
         setting = log.setting()
-        with open(os.path.join(self.folder, "heights.txt"), "w", encoding="ascii") as file:
+        with open(os.path.join(self.folder, "heights.txt"), "w", encoding="ascii", opener=_opened) as file:
             file.write(",".join(map(str, setting.heights)) + "\n")
-        with open(os.path.join(self.folder, "journal.txt"), "w", encoding="ascii") as journal:
-            with open(os.path.join(self.folder, "blocks.blk"), "wb") as blocks:
+        with open(os.path.join(self.folder, "journal.txt"), "w", encoding="ascii", opener=_opened) as journal:
+            with open(os.path.join(self.folder, "blocks.blk"), "wb", opener=_opened) as blocks:
                 self.newest = log.newest()
                 before = b""
                 for place, row in enumerate(log.copied(0, self.newest), 1):
@@ -74,11 +80,11 @@ class Exported:
                         self._put(row, row.told, journal, blocks)
         valid = [line.encode() + b"\n" for line, verdict in self.known.items() if verdict]
         invalid = [line.encode() + b"\n" for line, verdict in self.known.items() if not verdict]
-        with open(os.path.join(self.folder, "table.txt"), "wb") as table:
+        with open(os.path.join(self.folder, "table.txt"), "wb", opener=_opened) as table:
             table.write(setting.signatures)
             table.writelines(valid)
         if invalid:
-            with open(os.path.join(self.folder, "invalid.txt"), "wb") as table:
+            with open(os.path.join(self.folder, "invalid.txt"), "wb", opener=_opened) as table:
                 table.writelines(invalid)
 
     def _put(self, row: Row, told: Told, journal: IO[str], blocks: IO[bytes]) -> None:
@@ -139,19 +145,21 @@ def _wrong_verdicts(known: Dict[str, bool]) -> List[str]:
 
 def _follow(given: argparse.Namespace) -> int:
     """Follows, and says once a second where the replica is, until it is told to end."""
-    signal.signal(signal.SIGTERM, signal.default_int_handler)
+    signals, shown, asked = Signals(), -1, -2.0
     try:
         with Replica(given.url, 1, name=given.name, recheck=given.recheck, durable=not given.not_durable) as replica:
-            shown = -1
-            while True:
-                status = replica.status()
-                if status.place != shown or status.lost:
-                    lost = f", the database can't be reached: {status.lost}" if status.lost else ""
-                    print(f"place {status.place}, {status.behind:.1f} s behind at most{lost}", flush=True)
-                    shown = status.place
-                time.sleep(1)
+            signals.raises = False
+            while not signals.came:
+                if time.monotonic() - asked > 1:
+                    asked, status = time.monotonic(), replica.status()
+                    if status.place != shown or status.lost:
+                        lost = f", the database can't be reached: {status.lost}" if status.lost else ""
+                        print(f"place {status.place}, {status.behind:.1f} s behind at most{lost}", flush=True)
+                        shown = status.place
+                time.sleep(0.1)
     except KeyboardInterrupt:
-        return 0
+        pass
+    return 0
 
 
 def _init(given: argparse.Namespace) -> int:

@@ -195,6 +195,8 @@ class Log:
         for name, value in _LOSES.items():
             if self.ask("SELECT current_setting(%b::text)", name)[0][0] == value:
                 raise errors.NotDurable(f"the database has {name} = {value}: a crash may lose rows that it has confirmed")
+        if self.ask("SELECT 1 FROM pg_class WHERE oid = to_regclass('wakotehu.commands') AND relpersistence = 'u'"):
+            raise errors.NotDurable("wakotehu.commands is unlogged: a crash of the database empties it")
 
     def may_write(self) -> bool:
         """Whether the role may add rows."""

@@ -6,12 +6,10 @@ or with those of a table.
 """
 
 import argparse
-import atexit
 import contextlib
 import ctypes
 import gc
 import os
-import signal
 import sys
 import threading
 import time
@@ -32,6 +30,7 @@ from .rpc.jsonrpc import answer
 from .rpc.node import Node, run
 from .rpc.page import PATH, Page
 from .signatures import Verifier
+from .stopping import Signals
 from .version import __version__
 
 #: The modules that put calls into the table.
@@ -237,7 +236,7 @@ def _with_file(parser: _Parser, words: Sequence[str]) -> argparse.Namespace:
     password = None
     try:
         if path is not None:
-            found = settings.read(path)
+            found = settings.read(path, bool(given.conf))
             given, password = parser.parse([*found.words, *words]), found.password
             for line in found.ignored:
                 print(f"wakotehu-server: {line}", file=sys.stderr)
@@ -328,29 +327,6 @@ def _collect_seldom() -> None:
     gc.set_threshold(100_000, 50, 100)
 
 
-class _Signals:
-    """SIGINT and SIGTERM, from now on. The first one raises KeyboardInterrupt as long as the server is opened; while it serves it is
-    noted. All others change nothing, also while the interpreter ends."""
-
-    def __init__(self) -> None:
-        self.came = False
-        self.raises = True
-        for number in (signal.SIGINT, signal.SIGTERM):
-            signal.signal(number, self._note)
-        atexit.register(self._ignore)
-
-    def _note(self, number: int, frame: object) -> None:
-        is_first, self.came = not self.came, True
-        if is_first and self.raises:
-            raise KeyboardInterrupt
-
-    @staticmethod
-    def _ignore() -> None:
-        # The interpreter would have them end the process again.
-        for number in (signal.SIGINT, signal.SIGTERM):
-            signal.signal(number, signal.SIG_IGN)
-
-
 @contextlib.contextmanager
 def _published(given: argparse.Namespace) -> Iterator[Optional[notices.Publisher]]:
     """What tells of blocks, where that is asked for."""
@@ -364,7 +340,7 @@ def _published(given: argparse.Namespace) -> Iterator[Optional[notices.Publisher
         publisher.close()
 
 
-def _run(given: argparse.Namespace, folder: Optional[Folder], cookies: List[Tuple[str, str]], signals: _Signals) -> None:
+def _run(given: argparse.Namespace, folder: Optional[Folder], cookies: List[Tuple[str, str]], signals: Signals) -> None:
     """Serves until the end. The cookies that are written are added."""
     gate, has_cookie = _gate(given)
     with _published(given) as publisher, _bench(given, folder) as bench:
@@ -386,19 +362,21 @@ def _run(given: argparse.Namespace, folder: Optional[Folder], cookies: List[Tupl
         if folder and given.persistmempool:
             node.saves_to = os.path.join(given.datadir, MEMPOOL)
             with node.turn:
-                saved.load(node, node.saves_to)
+                if not saved.load(node, node.saves_to, lambda: signals.came):
+                    return
         node.publisher = publisher
         node.filters = filters.FilterIndex() if given.blockfilterindex else None
         serve(node, gate, hosts, given.rpcport, ready, Page(node) if given.page else None, lambda: signals.came)
         if node.saves_to is not None and not node.broken:
-            saved.save(node.mempool, node.saves_to)
+            with node.turn:
+                saved.save(node, node.saves_to)
         if node.broken:
             raise Error(node.broken)
 
 
 def main(words: Optional[Sequence[str]] = None) -> None:
     """The command, which takes SIGINT and SIGTERM."""
-    signals = _Signals()
+    signals = Signals()
     cookies: List[Tuple[str, str]] = []
     try:
         given = _given(sys.argv[1:] if words is None else words)

@@ -26,7 +26,10 @@ class Secp256k1:
         if name is None:
             raise OSError("libsecp256k1 isn't found: install libsecp256k1-dev")
         self._library = ctypes.CDLL(name)
-        self._library.secp256k1_context_create.restype = ctypes.c_void_p
+        try:
+            self._library.secp256k1_context_create.restype = ctypes.c_void_p
+        except AttributeError as error:
+            raise OSError(f"libsecp256k1 can't be used: {error}") from None
         # Flags 0x101 and 0x201: to verify and to sign.
         self._context = ctypes.c_void_p(self._library.secp256k1_context_create(0x301))
 

@@ -9,6 +9,8 @@ import secrets
 import tempfile
 from typing import List, Optional
 
+from ..history import regular
+
 COOKIE_USER = "__cookie__"
 
 
@@ -56,7 +58,7 @@ class Gate:
 def remove_cookie(path: str, password: str) -> None:
     """Removes a cookie, where the file still has this one: another server may have written its own."""
     try:
-        with open(path, encoding="ascii", errors="replace") as file:
+        with open(path, encoding="ascii", errors="replace", opener=regular) as file:
             found = file.read(200)
         if found == f"{COOKIE_USER}:{password}":
             os.unlink(path)

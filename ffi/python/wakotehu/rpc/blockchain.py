@@ -350,7 +350,9 @@ def scanned_scripts(node: Node, scanobjects: List[Any]) -> Dict[bytes, str]:
     """The scripts to scan for, each with the first descriptor that names it. The turn isn't held."""
     found: Dict[bytes, str] = {}
     known: Set[_Wanted] = set()
-    for given in scanobjects:
+    for place, given in enumerate(scanobjects):
+        if place % 1000 == 0:
+            node.expect_running()
         wanted = _described(given)
         if wanted not in known:
             known.add(wanted)

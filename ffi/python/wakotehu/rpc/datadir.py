@@ -8,7 +8,7 @@ import time
 from typing import BinaryIO, Callable, NamedTuple, Optional, Sequence
 
 from ..errors import NodeDied
-from ..history import LOG
+from ..history import LOG, regular
 from ..nodebench import NodeBench
 from .oldfiles import TABLE, BadFolder, OldFiles
 
@@ -40,7 +40,7 @@ class Folder:
         os.makedirs(path, mode=0o700, exist_ok=True)
         lock = os.path.join(path, ".lock")
         # No link is followed.
-        number = os.open(lock, os.O_RDWR | os.O_CREAT | os.O_NOFOLLOW | os.O_CLOEXEC, 0o600)
+        number = regular(lock, os.O_RDWR | os.O_CREAT | os.O_NOFOLLOW | os.O_CLOEXEC)
         self._lock = os.fdopen(number, "r+b")
         if not _locks(self._lock):
             self.close()
@@ -121,7 +121,7 @@ def _wait_for_end(node: str) -> None:
     """Waits until no node has a folder. One whose server was killed ends by itself, when its input has."""
     until = time.monotonic() + PATIENCE
     try:
-        with open(os.path.join(node, "lock"), "r+b") as file:
+        with open(os.path.join(node, "lock"), "r+b", opener=regular) as file:
             while not _locks(file):
                 if time.monotonic() > until:
                     raise BadFolder(f"{node} is in use by another process")

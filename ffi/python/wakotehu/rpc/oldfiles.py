@@ -6,6 +6,7 @@ import re
 from typing import BinaryIO, NamedTuple, Optional, Sequence, Set
 
 from ..chainstate import read_id
+from ..history import regular
 from ..nodebench import NodeBench
 
 JOURNAL, BLOCKS, TABLE, HEIGHTS = "journal.txt", "blocks.blk", "table.txt", "heights.txt"
@@ -77,7 +78,7 @@ class OldFiles:
                 os.rename(os.path.join(self.path, name), os.path.join(folder, name))
 
     def _open(self, name: str) -> BinaryIO:
-        return open(os.path.join(self.path, name), "rb")
+        return open(os.path.join(self.path, name), "rb", opener=regular)
 
 
 def _lines(table: bytes) -> Set[bytes]:

@@ -121,7 +121,7 @@ def block(node: Node, id: Any) -> Object:
     fields, data = header_fields(node, kept), node.data(kept.id)
     with node.others():
         txs = zip(block_at_front(data).ids, outlines(data))
-        rows = [[show(tx), len(its.spends), len(its.outputs), its.value] for tx, its in islice(txs, MOST)]
+        rows = [[show(tx), len(its.spends), its.outputs, its.value] for tx, its in islice(txs, MOST)]
     return {**fields, "size": kept.size, "transactions": rows}
 
 

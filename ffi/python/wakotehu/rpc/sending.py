@@ -82,13 +82,17 @@ def _package(given: Any) -> List[Raw]:
 
 
 def _package_fault(raws: Sequence[Raw]) -> str:
-    """Why transactions don't come together (Bitcoin Core's `CheckPackage`), or ""."""
+    """Why transactions don't come together (Bitcoin Core's `CheckPackage`), or "". One alone is no package."""
+    if len(raws) == 1:
+        return ""
     ids = [raw.id for raw in raws]
     if len({*ids}) < len(ids):
         return "package-contains-duplicates"
-    if any(spends.id in ids[place:] for place, raw in enumerate(raws) for spends in raw.tx.inputs):
+    later = [{*ids[place:]} for place in range(len(ids))]
+    if any(spends.id in own for own, raw in zip(later, raws) for spends in raw.tx.inputs):
         return "package-not-sorted"
-    spent = [(spends.id, spends.index) for raw in raws for spends in {*raw.tx.inputs}]
+    # One that spends a coin twice is refused by itself.
+    spent = [at for raw in raws for at in {(spends.id, spends.index) for spends in raw.tx.inputs}]
     return "conflict-in-package" if len({*spent}) < len(spent) else ""
 
 

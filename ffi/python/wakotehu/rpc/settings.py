@@ -6,6 +6,8 @@ import os
 import re
 from typing import Callable, Dict, List, NamedTuple, Optional, Tuple
 
+from ..history import regular
+
 #: What may be published by ZeroMQ, in the order in which Bitcoin Core tells of one event.
 TOPICS = ("hashblock", "hashtx", "rawblock", "rawtx", "sequence")
 #: What the file may set that the server has flags for. Those of the second are read in its section [regtest] alone.
@@ -130,9 +132,9 @@ class Settings(NamedTuple):
     ignored: List[str]
 
 
-def read(path: str) -> Settings:
-    """The settings of a file as bitcoin.conf."""
-    with open(path, encoding="utf-8", errors="surrogateescape") as file:
+def read(path: str, is_named: bool = True) -> Settings:
+    """The settings of a file as bitcoin.conf. One that was named may be a pipe."""
+    with open(path, encoding="utf-8", errors="surrogateescape", opener=None if is_named else regular) as file:
         lines = _lines(file.read(), path)
     # Those of the section go before the others, and of two the first counts.
     lines = [it for it in lines if it.section == "regtest"] + [it for it in lines if not it.section]

@@ -7,7 +7,7 @@ from ..encoding import subsidy
 from ..index import Kept
 from .errors import INVALID_PARAMETER, MISC_ERROR, RpcError
 from .node import Node, call
-from .outlines import Outline, outline, outlines
+from .outlines import Outline, outlines, outputs
 from .values import Object, array, digits, integer, is_number, text
 
 #: What an output takes beside its script, in bytes, as Bitcoin Core counts it: value, outpoint, height and mark.
@@ -48,23 +48,23 @@ def _stats(node: Node, kept: Kept) -> Object:
     others, sizes = txs[1:], [tx.size for tx in txs[1:]]
     spent = _spent(node, others)
     fees = [sum([value for value, _ in outs]) - tx.value for tx, outs in zip(others, spent)]
-    made = [size for tx in txs for _, size in tx.outputs]
-    gone = [size for outs in spent for _, size in outs]
+    made, gone = sum([tx.outputs for tx in txs]), sum(map(len, spent))
+    grows = sum([tx.scripts for tx in txs]) - sum([size for outs in spent for _, size in outs])
     found = {
         "blockhash": show(kept.id),
         "height": kept.height,
-        "ins": len(gone),
+        "ins": gone,
         "mediantime": kept.median,
-        "outs": len(made),
+        "outs": made,
         "subsidy": subsidy(kept.height),
         "swtotal_size": 0,
         "swtotal_weight": 0,
         "swtxs": 0,
         "time": kept.header.time,
-        "total_out": sum(tx.value for tx in others),
+        "total_out": sum([tx.value for tx in others]),
         "txs": len(txs),
-        "utxo_increase": len(made) - len(gone),
-        "utxo_size_inc": sum(made) - sum(gone) + PER_OUTPUT * (len(made) - len(gone)),
+        "utxo_increase": made - gone,
+        "utxo_size_inc": grows + PER_OUTPUT * (made - gone),
         **_of_fees(fees, sizes),
         **_of_sizes(sizes),
     }
@@ -100,19 +100,16 @@ def _of_sizes(sizes: List[int]) -> Object:
 
 def _spent(node: Node, txs: Sequence[Outline]) -> List[List[Tuple[int, int]]]:
     """The outputs that each transaction of a kept block spends."""
-    made: Dict[bytes, Outline] = {}
-    found = []
-    for tx in txs:
-        outs = []
-        for spends in tx.spends:
-            id = spends[:32]
-            if id not in made:
-                data = node.bench.spelled(id)
-                assert data is not None, "blocks of the index are kept"
-                made[id] = outline(data)
-            outs.append(made[id].outputs[int.from_bytes(spends[32:], "little")])
-        found.append(outs)
-    return found
+    made: Dict[bytes, List[Tuple[int, int]]] = {}
+
+    def output(id: bytes, index: int) -> Tuple[int, int]:
+        if id not in made:
+            data = node.bench.spelled(id)
+            assert data is not None, "blocks of the index are kept"
+            made[id] = outputs(data)
+        return made[id][index]
+
+    return [[output(*spends) for spends in tx.spends] for tx in txs]
 
 
 def _median(numbers: Sequence[int]) -> int:

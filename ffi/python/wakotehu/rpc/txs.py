@@ -159,8 +159,9 @@ def raw_transaction(hexstring: Any, fault: str, with_witness: bool) -> Raw:
 def _size_of(tx: Transaction) -> int:
     """How many bytes `write_transaction` would make."""
     scripts = [len(it.script) for it in tx.inputs] + [len(it.script) for it in tx.outputs]
-    counts = [len(tx.inputs), len(tx.outputs), *scripts]
-    return 8 + 40 * len(tx.inputs) + 8 * len(tx.outputs) + sum(scripts) + sum(map(_size_of_count, counts))
+    counts = [len(tx.inputs), len(tx.outputs), *(length for length in scripts if length > 252)]
+    short = len(scripts) + 2 - len(counts)
+    return 8 + 40 * len(tx.inputs) + 8 * len(tx.outputs) + sum(scripts) + short + sum(map(_size_of_count, counts))
 
 
 def _size_of_count(count: int) -> int:
