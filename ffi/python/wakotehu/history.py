@@ -18,8 +18,8 @@ VERDICTS = ("valid", "invalid")
 
 
 def regular(path: str, flags: int, mode: int = 0o600) -> int:
-    """An opener for `open`: of a regular file, or of a link to one; `mode` is that of one that is made. `OSError` of another one, as of a pipe nobody writes to, which
-    would be waited for, and of a device, which may have no end."""
+    """An opener for `open`: of a regular file, or of a link to one. `OSError` of another one: a pipe nobody writes to would be waited
+    for, and a device may have no end. `mode` is that of a file that is made."""
     number = os.open(path, flags | os.O_NONBLOCK, mode)
     if stat.S_ISREG(os.fstat(number).st_mode):
         return number
