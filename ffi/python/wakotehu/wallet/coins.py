@@ -15,7 +15,7 @@ class Place(NamedTuple):
 
     block: bytes
     height: int
-    index: int
+    number: int
     time: int
 
 
@@ -320,7 +320,7 @@ class Ledger:
                 continue
             if record.place is not None:
                 coin = Coin(at, self.coins[at], self.depth(record), True)
-                found.append((record.place.height, record.place.index, coin))
+                found.append((record.place.height, record.place.number, coin))
             elif at[0] in self.waiting and self.depth(record) == 0:
                 is_replaced = "replaces_txid" in record.notes or "replaced_by_txid" in record.notes
                 waiting.append(Coin(at, self.coins[at], 0, not is_replaced and self.is_trusted(record)))

@@ -3,7 +3,7 @@
 import json
 import os
 import sqlite3
-from typing import Any, Dict, Iterable, List, NamedTuple, Tuple
+from typing import Any, Dict, Iterable, List, NamedTuple, Optional, Tuple
 
 from ..encoding import read_transaction
 from .coins import Ledger, Place, Record
@@ -36,14 +36,13 @@ class Kept(NamedTuple):
 class Store:
     """The file of a wallet, which this process alone uses.
 
-    path: it is made where it isn't there.
+    path: it is made where it isn't there; None for one in memory.
     """
 
-    def __init__(self, path: str) -> None:
-        self.path = path
-        # Only its owner reads it: it has the keys.
-        os.close(os.open(path, os.O_RDWR | os.O_CREAT | os.O_NOFOLLOW, 0o600))
-        self._file = sqlite3.connect(path, check_same_thread=False, isolation_level=None)
+    def __init__(self, path: Optional[str]) -> None:
+        if path is not None:
+            _make(path)
+        self._file = sqlite3.connect(path or ":memory:", check_same_thread=False, isolation_level=None)
         try:
             self._open()
         except sqlite3.Error:
@@ -65,9 +64,7 @@ class Store:
     def read(self) -> Kept:
         """All of it."""
         ask = self._file.execute
-        owned = [
-            Owned(*row[:6], bool(row[6]), bool(row[7])) for row in ask("SELECT * FROM descriptors ORDER BY number")
-        ]
+        owned = [_owned(row) for row in ask("SELECT * FROM descriptors ORDER BY number")]
         records = [_record(row) for row in ask("SELECT * FROM records ORDER BY place")]
         conflicts = list(ask("SELECT id, block, height FROM conflicts"))
         labels = {script: (label, purpose) for script, label, purpose in ask("SELECT * FROM labels")}
@@ -93,6 +90,7 @@ class Store:
 
     def copy_to(self, path: str) -> None:
         """Writes a copy of the file."""
+        _make(path)
         other = sqlite3.connect(path)
         try:
             self._file.backup(other)
@@ -100,8 +98,18 @@ class Store:
             other.close()
 
 
+def _make(path: str) -> None:
+    """Makes a file where there is none, which its owner alone reads: it has the keys."""
+    os.close(os.open(path, os.O_RDWR | os.O_CREAT | os.O_NOFOLLOW, 0o600))
+
+
 def _owned_row(own: Owned) -> Tuple[Any, ...]:
     return (own.number, own.text, own.timestamp, own.low, own.high, own.next, own.is_active, own.is_internal)
+
+
+def _owned(row: Tuple[Any, ...]) -> Owned:
+    number, text, timestamp, low, high, next, active, internal = row
+    return Owned(number, text, timestamp, low, high, next, bool(active), bool(internal))
 
 
 def _record_row(own: Record) -> Tuple[Any, ...]:

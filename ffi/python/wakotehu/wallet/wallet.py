@@ -1,14 +1,16 @@
 """A wallet for tests on regtest. Its keys are kept in the clear: whoever reads its file, or this process, can spend its coins."""
 
 import os
+import sqlite3
 import threading
+import time
 from contextlib import contextmanager
 from typing import Any, Dict, Iterator, List, NamedTuple, Optional, Sequence, Set, Tuple, Union
 
 from .. import arguments
 from ..addresses import script_of
 from ..chainstate import show
-from ..encoding import Input, Output, Transaction, block_at_front, read_transaction, write_transaction
+from ..encoding import Input, Output, Transaction, block_at_front, read_header, read_transaction
 from ..errors import DecodeFailed, NotAccepted
 from ..pool import Pool
 from ..replacing import REPLACEABLE, rate, signals
@@ -20,7 +22,7 @@ from .coins import Balances, Coin, Ledger, Outpoint, Record
 from .errors import WalletError
 from .funding import FALLBACK, Funded, Payment, Plan, Purse, fund
 from .hosts import PART, Host, host_of
-from .keys import DEFAULT_TYPE, KEYPOOL, TYPES, Owned, destination, expect_type, first_descriptors
+from .keys import DEFAULT_TYPE, KEYPOOL, TYPES, Owned, destination, expect_type, first_descriptors, read
 from .store import Kept, Store, changed, restored
 
 #: The bytes of a seed (BIP 32).
@@ -128,7 +130,11 @@ class Wallet:
         meta = {"name": self.name, "private": self.has_private, "blank": self.is_blank, "best": self.ledger.best,
                 "height": self.ledger.height}  # fmt: skip
         if self._kept_meta != meta or records or self._unkept["owned"] or self._unkept["labels"]:
-            self.store.write(Kept(meta, [self.owned[it] for it in self._unkept["owned"]], records, conflicts, labels), gone)
+            kept = Kept(meta, [self.owned[it] for it in self._unkept["owned"]], records, conflicts, labels)
+            try:
+                self.store.write(kept, gone)
+            except sqlite3.Error as error:
+                raise WalletError(WALLET_ERROR, f"Error: The wallet's file can't be written: {error}") from error
         self._kept_meta = meta
         self.ledger.changed.clear()
         self._unkept = {"owned": {}, "labels": {}}
@@ -149,9 +155,10 @@ class Wallet:
             if self.store is not None:
                 self.store.copy_to(path)
                 return
-            other = Store(path)
+            other = Store(None)
             try:
                 self._write_all(other)
+                other.copy_to(path)
             finally:
                 other.close()
 
@@ -238,8 +245,6 @@ class Wallet:
     def rescan(self, start: int = 0, stop: Optional[int] = None, is_ending: Any = lambda: False) -> int:
         """Looks for the wallet's transactions in active blocks from a height on, up to another or to the last: that height. Other
         threads use the wallet meanwhile. It ends where `is_ending` says so."""
-        import time
-
         height, began = max(1, start), time.monotonic()
         if self.scanning is not None:
             raise WalletError(WALLET_ERROR, "Wallet is currently rescanning. Abort existing rescan or wait.")
@@ -256,18 +261,20 @@ class Wallet:
         finally:
             self.scanning = None
 
+    def scan_state(self) -> Optional[Tuple[float, float]]:
+        """How long a rescan runs, in seconds, and how far it is, up to 1; None where none does."""
+        return None if self.scanning is None else (time.monotonic() - self.scanning[0], self.scanning[1])
+
     def height_at(self, timestamp: int) -> int:
         """The height from which on blocks may have the coins of a key of a moment: of the first whose time is late enough."""
         with self.used():
-            low, high = 1, self.ledger.height
-            if timestamp > WINDOW:
-                # Times are no order, but those of regtest's blocks are close to one: the first late one is found by steps.
-                for begin in range(1, high + 1, PART):
-                    for height, id in enumerate(self.host.ids(self.ledger.best, begin, min(begin + PART - 1, high)), begin):
-                        if block_at_front(self.host.block(id)).header.time >= timestamp - WINDOW:
-                            return height
-                return high + 1
-            return low
+            high = self.ledger.height if timestamp > WINDOW else 0
+            for begin in range(1, high + 1, PART):
+                ids = self.host.ids(self.ledger.best, begin, min(begin + PART - 1, high))
+                for height, id in enumerate(ids, begin):
+                    if read_header(self.host.block(id)[:80]).time >= timestamp - WINDOW:
+                        return height
+            return high + 1
 
     # ---- scripts and keys
 
@@ -278,10 +285,7 @@ class Wallet:
         """Adds a descriptor, or more places of one that is there; an active one gives addresses from now on. The chain isn't
         looked through. `Underivable` where a key of it can't be derived."""
         with self.lock:
-            own = next_ = None
-            own = next_ or self._same(text)
-            if own is None:
-                own = Owned(max(self.owned, default=0) + 1, text, timestamp, low, high, next)
+            own = self._same(text) or Owned(max(self.owned, default=0) + 1, text, timestamp, low, high, next)
             own.timestamp = min(own.timestamp, timestamp)
             own.low, own.high, own.next = min(own.low, low), max(own.high, high), max(own.next, next)
             own.text, own.is_active, own.is_internal, own.known = text, is_active, is_internal, own.low
@@ -296,10 +300,8 @@ class Wallet:
 
     def _same(self, text: str) -> Optional[Owned]:
         """The descriptor that has the same keys."""
-        from .keys import read
-
         own = read(text).text
-        return next((it for it in self.owned.values() if it.found.text == own), None)
+        return {it.found.text: it for it in self.owned.values()}.get(own)
 
     def _make_active(self, own: Owned) -> None:
         for other in self.owned.values():
@@ -543,7 +545,7 @@ class Wallet:
             raise WalletError(INVALID_PARAMETER, "Transaction has descendants in the wallet")
         if record.place is not None or ledger.depth(record) != 0:
             raise WalletError(WALLET_ERROR, "Transaction has been mined, or is conflicted with a mined transaction")
-        if not signals(record):  # type: ignore[arg-type]
+        if not signals(record):
             raise WalletError(WALLET_ERROR, "Transaction is not BIP 125 replaceable")
         if "replaced_by_txid" in record.notes:
             by = record.notes["replaced_by_txid"]
@@ -590,7 +592,3 @@ def type_of(own: Owned) -> str:
     name = own.text.partition("(")[0]
     return "legacy" if name == "pkh" else name
 
-
-def spelled(tx: Transaction) -> str:
-    """A transaction as digits."""
-    return write_transaction(tx).hex()
