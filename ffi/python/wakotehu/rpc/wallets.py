@@ -137,6 +137,8 @@ class Wallets:
         """Unloads a wallet."""
         found = self.loaded.pop(name, None)
         if found is None:
+            # One without a file is forgotten then, so that tests may have the name again.
+            self._others.pop(name, None)
             raise RpcError(WALLET_NOT_FOUND, "Requested wallet does not exist or is not loaded")
         if self.folder is None:
             self._others[name] = found
