@@ -13,11 +13,11 @@ from ..chainstate import show
 from ..encoding import Input, Output, Transaction, block_at_front, read_header, read_transaction
 from ..errors import DecodeFailed, NotAccepted
 from ..pool import Pool
-from ..replacing import REPLACEABLE, rate, signals
+from ..replacing import REPLACEABLE, money, rate, signals
 from ..rpc.descriptors import Script, Underivable, curve
-from ..rpc.errors import INVALID_ADDRESS_OR_KEY, INVALID_PARAMETER, KEYPOOL_RAN_OUT, WALLET_ERROR
+from ..rpc.errors import INVALID_ADDRESS_OR_KEY, INVALID_PARAMETER, KEYPOOL_RAN_OUT, WALLET_ERROR, WALLET_NOT_FOUND
 from ..rpc.signing import Keys, Means, sign_inputs
-from ..rpc.values import MAX_MONEY, Amount, Object
+from ..rpc.values import MAX_MONEY, Object
 from .coins import Balances, Coin, Ledger, Outpoint, Record
 from .errors import WalletError
 from .funding import FALLBACK, Funded, Payment, Plan, Purse, fund
@@ -142,12 +142,14 @@ class Wallet:
     _kept_meta: Object = {}
 
     def close(self) -> None:
-        """Closes its file."""
+        """Closes its file; the wallet isn't used any more. One without a file stays as it is."""
         with self.lock:
             if self.store is not None:
                 self.keep()
                 self.store.close()
-                self.store = None
+                self.store, self._is_closed = None, True
+
+    _is_closed = False
 
     def backup(self, path: str) -> None:
         """Writes a copy of it into a file."""
@@ -188,6 +190,8 @@ class Wallet:
     def used(self) -> Iterator["Wallet"]:
         """The wallet as its chain is now, for one thread; what it changes is kept."""
         with self.lock:
+            if self._is_closed:
+                raise WalletError(WALLET_NOT_FOUND, "Requested wallet does not exist or is not loaded")
             self.follow()
             try:
                 yield self
@@ -559,10 +563,11 @@ class Wallet:
         tx, ledger = record.tx, self.ledger
         old_fee = ledger.debit(tx) - sum(out.value for out in tx.outputs)
         old_rate = rate(old_fee, len(record.data))
-        if rate_ is not None and rate_ < old_rate + 1000:
-            least = -(-(old_rate + 1000) * len(record.data) // 1000)
-            message = (f"Insufficient total fee {Amount(rate_ * len(record.data) // 1000)}, must be at least {Amount(least)}"
-                       f" (oldFee {Amount(old_fee)} + incrementalFee {Amount(least - old_fee)})")  # fmt: skip
+        if rate_ is not None and rate_ < old_rate + BUMP:
+            size = len(record.data)
+            paid, old, more = (each * size // 1000 for each in (rate_, old_rate, BUMP))
+            message = (f"Insufficient total fee {money(paid)}, must be at least {money(old + more)} (oldFee {money(old)}"
+                       f" + incrementalFee {money(more)})")  # fmt: skip
             raise WalletError(INVALID_PARAMETER, message)
         change = next((out for out in tx.outputs if self.is_change(out.script)), None)
         payments = [Payment(out) for out in tx.outputs if out is not change]
