@@ -147,6 +147,7 @@ class PaymentsTest(unittest.TestCase):
         bench, pool, wallet = funded(5)
         with bench:
             id = wallet.pay(OTHER, 120 * COIN)
+            self.assertEqual([wallet.ledger.conflicting(own) for own in wallet.ledger.in_order()], [[]] * 5)
             heights = [bench.coin(it.id, it.index).height for it in pool.entry(id).tx.inputs]
             self.assertEqual(heights, [1, 2, 3])
 
@@ -369,7 +370,7 @@ class Run:
     def __init__(self, number, folder):
         self.random, self.path = random.Random(number), os.path.join(folder, str(number))
         self.bench = Bench()
-        self.pool = Pool(self.bench)
+        self.pool, self.miner = Pool(self.bench), BenchMiner(self.bench)
         self.wallet = Wallet(self.bench, self.pool, seed=SEED, path=self.path, settings=Settings(keypool=50))
         self.other = Wallet(self.bench, self.pool, seed=bytes(16), settings=Settings(keypool=50))
         for wallet in (self.wallet, self.other):
@@ -402,7 +403,7 @@ class Run:
 
     def reorg(self):
         depth = self.random.randrange(1, 8)
-        BenchMiner(self.bench).reorg(depth)
+        self.miner.reorg(depth)
         self.pool.mine(self.random.randrange(3))
 
     def invalid(self):

@@ -11,10 +11,10 @@ TOPICS = ("hashblock", "hashtx", "rawblock", "rawtx", "sequence")
 #: What the file may set that the server has flags for. Those of the second are read in its section [regtest] alone.
 READ = (
     "rpcuser", "rpcpassword", "rpcauth", "rpccookiefile", "testactivationheight", "blocknotify", "maxmempool", "txindex",
-    "blockfilterindex", "mempoolfullrbf", "persistmempool", "acceptnonstdtxn", "wallet", "fallbackfee", "keypool",
+    "blockfilterindex", "mempoolfullrbf", "persistmempool", "acceptnonstdtxn", "fallbackfee", "keypool",
     *(f"zmqpub{topic}{end}" for topic in TOPICS for end in ("", "hwm")),
 )  # fmt: skip
-READ_IN_SECTION = ("rpcport", "rpcbind")
+READ_IN_SECTION = ("rpcport", "rpcbind", "wallet")
 #: Those that are on or off.
 SWITCHES = ("txindex", "blockfilterindex", "mempoolfullrbf", "persistmempool", "acceptnonstdtxn")
 

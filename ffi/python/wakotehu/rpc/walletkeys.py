@@ -155,11 +155,10 @@ def dumpprivkey(node: Node, address: Any) -> str:
         if is_script_hash(script):
             raise RpcError(TYPE_ERROR, "Address does not refer to a key")
         known = wallet.key_for(script)
-        if known is None or not known.keys or known.keys[0].secret is None:
-            if script[3:23] in node.keys:
-                return keys.private_key(node, address)
-            raise RpcError(WALLET_ERROR, f"Private key for address {address} is not known")
-        return secret_text(known.keys[0].secret, len(known.keys[0].key) == 33)
+        if known is not None and known.keys and known.keys[0].secret is not None:
+            return secret_text(known.keys[0].secret, len(known.keys[0].key) == 33)
+    # It may be one that was given before a wallet was loaded.
+    return keys.private_key(node, address)
 
 
 @call(GROUP, "privkey", "label", "rescan", needed=1)

@@ -97,10 +97,13 @@ class Wallets:
         if self.is_there(name):
             message = f"{_FAILED}Failed to create database path '{self.path(name)}'. Database already exists."
             raise RpcError(WALLET_ERROR, message)
-        found = Wallet(
-            ServedHost(self.node), path=self._file(name), name=name, is_blank=is_blank, has_private=has_private,
-            settings=self.settings,
-        )  # fmt: skip
+        try:
+            found = Wallet(
+                ServedHost(self.node), path=self._file(name), name=name, is_blank=is_blank, has_private=has_private,
+                settings=self.settings,
+            )  # fmt: skip
+        except (OSError, sqlite3.Error) as error:
+            raise RpcError(WALLET_ERROR, f"{_FAILED}{error}") from error
         self.loaded[name] = found
         return found
 
@@ -116,8 +119,8 @@ class Wallets:
         if found is None:
             try:
                 found = Wallet(ServedHost(self.node), path=self._file(name), settings=self.settings)
-            except (sqlite3.Error, KeyError, ValueError) as error:
-                raise RpcError(WALLET_ERROR, f"{_FAILED}Data file '{self.path(name)}' is corrupt: {error}") from error
+            except (OSError, sqlite3.Error, KeyError, ValueError) as error:
+                raise RpcError(WALLET_ERROR, f"{_FAILED}Data file '{self.path(name)}' can't be read: {error}") from error
             found.name = name
         self.loaded[name] = found
         self._send_again(found)
@@ -194,10 +197,11 @@ def named(node: Node) -> Optional[Wallet]:
         if name not in loaded:
             raise RpcError(WALLET_NOT_FOUND, "Requested wallet does not exist or is not loaded")
         return loaded[name]
-    if len(loaded) > 1:
+    found = list(loaded.values())
+    if len(found) > 1:
         message = "Wallet file not specified (must request wallet RPC through /wallet/<filename> uri-path)."
         raise RpcError(WALLET_NOT_SPECIFIED, message)
-    return next(iter(loaded.values()), None)
+    return found[0] if found else None
 
 
 def wallet_of(node: Node) -> Wallet:

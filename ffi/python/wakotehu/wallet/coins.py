@@ -52,6 +52,11 @@ class Balances(NamedTuple):
     immature: int
 
 
+def spent_by(tx: Transaction) -> List[Outpoint]:
+    """The outpoints that a transaction spends; a coinbase spends none."""
+    return [] if tx.is_coinbase else [(it.id, it.index) for it in tx.inputs]
+
+
 class Ledger:
     """The transactions of a wallet, on a branch whose last block is `best`.
 
@@ -109,8 +114,8 @@ class Ledger:
             return self.records[record.id]
         self.records[record.id] = record
         self._order, self._latest = max(self._order, record.order), max(self._latest, record.time)
-        for spends in record.tx.inputs:
-            self.spenders.setdefault((spends.id, spends.index), []).append(record.id)
+        for at in spent_by(record.tx):
+            self.spenders.setdefault(at, []).append(record.id)
         for index, out in enumerate(record.tx.outputs):
             if self.is_mine(out.script):
                 self._have((record.id, index), out)
@@ -139,7 +144,7 @@ class Ledger:
 
     def concerns(self, tx: Transaction) -> bool:
         """Whether a transaction spends of the wallet or pays to it."""
-        return any((it.id, it.index) in self.coins for it in tx.inputs) or any(self.is_mine(it.script) for it in tx.outputs)
+        return any(at in self.coins for at in spent_by(tx)) or any(self.is_mine(it.script) for it in tx.outputs)
 
     def take(self, id: bytes, tx: Transaction, data: bytes, now: int, place: Optional[Place] = None) -> Optional[Record]:
         """A transaction was heard of, in a block or not: its record, or None where it isn't the wallet's."""
@@ -163,15 +168,14 @@ class Ledger:
         own = self._mined.setdefault(place.block, [])
         if record.id not in own:
             own.append(record.id)
-        for spends in record.tx.inputs:
-            self.unspent.pop((spends.id, spends.index), None)
+        for at in spent_by(record.tx):
+            self.unspent.pop(at, None)
         self._change(record.id)
 
     def _displace(self, record: Record) -> None:
         record.place = None
         self.pending[record.id] = None
-        for spends in record.tx.inputs:
-            at = spends.id, spends.index
+        for at in spent_by(record.tx):
             if at in self.coins and not any(self.records[id].place for id in self.spenders[at]):
                 self.unspent[at] = None
         self._change(record.id)
@@ -182,8 +186,8 @@ class Ledger:
         for index, own in enumerate(spelled.ids):
             tx = spelled.transaction(index)
             begin, end = spelled.places[index]
-            for spends in tx.inputs:
-                for other in self.spenders.get((spends.id, spends.index), ()):
+            for at in spent_by(tx):
+                for other in self.spenders.get(at, ()):
                     if other != own:
                         self.refuse(other, id, height)
             record = self.take(own, tx, spelled.data[begin:end], now, Place(id, height, index, spelled.header.time))
@@ -202,11 +206,11 @@ class Ledger:
 
     def refuse(self, id: bytes, block: bytes, height: int) -> None:
         """A block spends what a transaction spends."""
-        self._conflicts.setdefault(id, {})[block] = height
-        own = self._refused_by.setdefault(block, [])
-        if id not in own:
-            own.append(id)
-        self._change(id)
+        blocks = self._conflicts.setdefault(id, {})
+        if block not in blocks:
+            blocks[block] = height
+            self._refused_by.setdefault(block, []).append(id)
+            self._change(id)
 
     def disconnect(self, id: bytes) -> None:
         """Undoes a block."""
@@ -263,7 +267,7 @@ class Ledger:
 
     def debit(self, tx: Transaction) -> int:
         """The satoshis of the wallet that a transaction spends."""
-        return sum(self.coins[it.id, it.index].value for it in tx.inputs if (it.id, it.index) in self.coins)
+        return sum(self.coins[at].value for at in spent_by(tx) if at in self.coins)
 
     def credit(self, record: Record) -> int:
         """The satoshis that it pays to the wallet; nothing for a coinbase that isn't deep enough."""
@@ -291,12 +295,12 @@ class Ledger:
         """Whether it waits, and spends coins of the wallet alone that are trusted."""
         if record.tx.is_coinbase or record.id not in self.waiting or self.depth(record) < 0:
             return False
-        spent = [(it.id, it.index) for it in record.tx.inputs]
+        spent = spent_by(record.tx)
         return all(at in self.coins and (at[0] not in self.pending or self._trusted[at[0]]) for at in spent)
 
     def conflicting(self, record: Record) -> List[bytes]:
         """The wallet's other transactions that spend the same coins."""
-        found = (id for it in record.tx.inputs for id in self.spenders.get((it.id, it.index), ()))
+        found = (id for at in spent_by(record.tx) for id in self.spenders.get(at, ()))
         return sorted({*found} - {record.id}, key=lambda id: id[::-1])
 
     def children(self, record: Record) -> List[bytes]:
@@ -342,6 +346,12 @@ class Ledger:
             elif record.id in self.waiting and not record.tx.is_coinbase and self.depth(record) == 0:
                 pending += value
         return Balances(trusted, pending, immature)
+
+    def revive(self, record: Record) -> None:
+        """One that waits again counts again."""
+        if record.is_abandoned:
+            record.is_abandoned = False
+            self._change(record.id)
 
     def abandon(self, id: bytes) -> None:
         """One, and what hangs on it, spends its coins no more."""

@@ -241,7 +241,7 @@ class Wallet:
             entry = waiting[id]
             record = self.ledger.take(id, entry.tx, entry.data, entry.time)
             if record is not None:
-                record.is_abandoned = False
+                self.ledger.revive(record)
                 self._use(out.script for out in record.tx.outputs)
         self._heard = set(waiting)
         self.ledger.set_waiting({id for id in self.ledger.pending if id in waiting})
