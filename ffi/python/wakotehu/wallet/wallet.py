@@ -5,7 +5,7 @@ import sqlite3
 import threading
 import time
 from contextlib import contextmanager
-from typing import Any, Dict, Iterator, List, NamedTuple, Optional, Sequence, Set, Tuple, Union
+from typing import Any, Callable, Dict, Iterator, List, NamedTuple, Optional, Sequence, Set, Tuple, Union
 
 from .. import arguments
 from ..addresses import script_of
@@ -151,8 +151,9 @@ class Wallet:
 
     _is_closed = False
 
-    def backup(self, path: str) -> None:
+    def backup(self, path: arguments.Path) -> None:
         """Writes a copy of it into a file."""
+        path = arguments.path(path, "path")
         with self.used():
             if self.store is not None:
                 self.store.copy_to(path)
@@ -173,6 +174,8 @@ class Wallet:
 
     def copy(self, chain: Any, pool: Optional[Pool] = None) -> "Wallet":
         """The same wallet on a copy of its chain, without a file. Each then goes its own way."""
+        if pool is not None:
+            arguments.instance(pool, Pool, "pool")
         with self.lock:
             found = Wallet.__new__(Wallet)
             found.name, found.settings, found.store = self.name, self.settings, None
@@ -246,14 +249,19 @@ class Wallet:
         self._heard = set(waiting)
         self.ledger.set_waiting({id for id in self.ledger.pending if id in waiting})
 
-    def rescan(self, start: int = 0, stop: Optional[int] = None, is_ending: Any = lambda: False) -> int:
+    def rescan(
+        self, start: int = 0, stop: Optional[int] = None, is_ending: Optional[Callable[[], bool]] = None
+    ) -> int:  # fmt: skip
         """Looks for the wallet's transactions in active blocks from a height on, up to another or to the last: that height. Other
         threads use the wallet meanwhile. It ends where `is_ending` says so."""
-        height, began = max(1, start), time.monotonic()
+        height, began = max(1, arguments.number(start, "start")), time.monotonic()
+        stop = None if stop is None else arguments.number(stop, "stop")
+        if is_ending is not None and not callable(is_ending):
+            raise TypeError(f"is_ending must be a function, not {type(is_ending).__name__}")
         if self.scanning is not None:
             raise WalletError(WALLET_ERROR, "Wallet is currently rescanning. Abort existing rescan or wait.")
         try:
-            while not is_ending():
+            while is_ending is None or not is_ending():
                 with self.used():
                     last = self.ledger.height if stop is None else min(stop, self.ledger.height)
                     if height > last:
