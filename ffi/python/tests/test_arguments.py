@@ -323,7 +323,7 @@ ROWS = [
     row("signatures.Secp256k1"), row("signatures.Secp256k1.valid", triple=("triple", TRIPLE)),
     row("signatures.Secp256k1.public_key", secret=("secret", SECRET), compressed=("flag", True)),
     row("signatures.Secp256k1.sign", secret=("secret", SECRET), digest=ID),
-    row("signatures.Secp256k1.sign_short", secret=("secret", SECRET), digest=ID),
+    *(row(f"signatures.Secp256k1.{name}", secret=("secret", SECRET), digest=ID) for name in ("sign_short", "sign_recoverable")),
     row("signatures.Secp256k1.is_key", key=("bytes", b"")), row("signatures.Secp256k1.tweaked", key=("bytes", b""), tweak=ID),
     row("signatures.Verifier", threads=("threads", 1)),
     row("signatures.Verifier.verdicts", lines=("list of lines", [TRIPLE.line])), row("signatures.processors"),

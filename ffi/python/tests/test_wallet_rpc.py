@@ -9,6 +9,9 @@ import threading
 import time
 import unittest
 
+import bitcoin
+from bitcoin.signmessage import BitcoinMessage, VerifyMessage
+from bitcoin.wallet import P2PKHBitcoinAddress
 from servers import Running
 from wakotehu.rpc.checksums import checksum
 from wakotehu.rpc.node import CALLS
@@ -139,6 +142,19 @@ class DescriptorsTest(Case):
                 [answer] = [self.call("importdescriptors", [row], path=f"/wallet/{name}")]
                 error = answer if isinstance(answer, dict) else answer[0]["error"]
                 self.assertEqual((error["code"], text in error["message"]), (code, True), error)
+
+
+class MessagesTest(Case):
+    def test_beside_bitcoinlib(self):
+        bitcoin.SelectParams("regtest")
+        self.addCleanup(bitcoin.SelectParams, "mainnet")
+        own = self.funded()
+        for said in ("", "a message", "é" * 300):
+            signed = self.call("signmessage", own, said)
+            self.assertTrue(VerifyMessage(P2PKHBitcoinAddress(own), BitcoinMessage(said), signed.encode()))
+            self.assertFalse(VerifyMessage(P2PKHBitcoinAddress(own), BitcoinMessage(said + "x"), signed.encode()))
+        for words, code, message in (((OTHER, "x"), -4, "Private key not available"), (("x", "x"), -3, "Invalid address")):
+            self.assertEqual(self.call("signmessage", *words), {"code": code, "message": message})
 
 
 class KeptTest(Case):

@@ -1,8 +1,9 @@
 """Calls on the addresses, labels and descriptors of a wallet."""
 
+import base64
 from typing import Any, Dict, List, Optional
 
-from ..encoding import hash160
+from ..encoding import double_sha, hash160
 from .descriptors import Descriptor, Underivable, curve, descriptor_range, read_descriptor
 from ..wallet import Wallet, WalletError
 from ..wallet.keys import (
@@ -14,7 +15,7 @@ from .errors import (
     INVALID_ADDRESS_OR_KEY, INVALID_LABEL_NAME, INVALID_PARAMETER, TYPE_ERROR, WALLET_ERROR, RpcError,
 )  # fmt: skip
 from .node import Node, call
-from .scripts import address_script, is_script_hash, kind_of, script_keys, without_checksum
+from .scripts import address_script, compact, is_script_hash, kind_of, script_keys, without_checksum
 from .signing import read_secret
 from .values import Amount, Object, boolean, integer, is_number, kind_name, object_of, text
 from .wallets import GROUP, named, rescanned, using
@@ -159,6 +160,22 @@ def dumpprivkey(node: Node, address: Any) -> str:
             return secret_text(known.keys[0].secret, len(known.keys[0].key) == 33)
     # It may be one that was given before a wallet was loaded.
     return keys.private_key(node, address)
+
+
+@call(GROUP, "address", "message", needed=2)
+def signmessage(node: Node, address: Any, message: Any) -> str:
+    """Signs a message by the key of an address of the wallet: in base 64, as `verifymessage` reads it."""
+    with using(node) as wallet:
+        script, said = address_script(text(address)), text(message).encode()
+        if script is None or is_script_hash(script):
+            raise RpcError(TYPE_ERROR, "Invalid address" if script is None else "Address does not refer to key")
+        known = wallet.key_for(script)
+        if known is None or not known.keys or known.keys[0].secret is None:
+            raise RpcError(WALLET_ERROR, "Private key not available")
+        digest = double_sha(b"\x18Bitcoin Signed Message:\n" + compact(len(said)) + said)
+        made = curve().sign_recoverable(known.keys[0].secret, digest)
+        first = 27 + made[0] + 4 * (len(known.keys[0].key) == 33)
+        return base64.b64encode(bytes([first]) + made[1:]).decode()
 
 
 @call(GROUP, "privkey", "label", "rescan", needed=1)
