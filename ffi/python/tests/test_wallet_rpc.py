@@ -4,6 +4,7 @@ a restart leaves, what doesn't wait for what, and parameters at random."""
 import json
 import os
 import random
+import signal
 import tempfile
 import threading
 import time
@@ -13,6 +14,7 @@ import bitcoin
 from bitcoin.signmessage import BitcoinMessage, VerifyMessage
 from bitcoin.wallet import P2PKHBitcoinAddress
 from servers import Running
+from test_datadir import FolderCase
 from wakotehu.rpc.checksums import checksum
 from wakotehu.rpc.node import CALLS
 from wakotehu.rpc.wallets import Wallets
@@ -211,6 +213,40 @@ class KeptTest(Case):
         self.assertEqual(self.call("loadwallet", "w")["code"], -18)
 
 
+class ProcessTest(FolderCase):
+    """A server that is killed, and the next one."""
+
+    def test_killed(self):
+        server = self.started("-keypool=20", "-fallbackfee=0.0003")
+        server.call("createwallet", "w")
+        own = server.call("getnewaddress", "a label")
+        server.call("generatetoaddress", 3, own)
+        server.call("generatetoaddress", 100, OTHER)
+        sent = server.call("sendtoaddress", OTHER, 1)
+        self.assertEqual(float(server.call("gettransaction", sent)["fee"]), -225 * 30 / 1e8)
+        [block] = server.call("generatetoaddress", 1, OTHER)
+        asked = ("getbalances", "listunspent", "listtransactions", "listlabels", "listdescriptors")
+        given = server.call("getnewaddress")
+        before = {name: server.call(name) for name in asked}
+        server.end(signal.SIGKILL)
+        self.assertEqual(os.stat(os.path.join(self.folder, "wallets", "w.sqlite")).st_mode & 0o777, 0o600)
+        server = self.started("-keypool=20", "-wallet=w")
+        self.assertEqual(server.call("getaddressinfo", given)["labels"], [""])
+        self.assertEqual({name: server.call(name) for name in asked}, before)
+        # A branch changes while the wallet isn't loaded.
+        server.call("unloadwallet", "w", False)
+        server.call("invalidateblock", block)
+        server.call("generatetoaddress", 2, OTHER)
+        server.end(signal.SIGTERM)
+        server = self.started("-keypool=20")
+        self.assertEqual(server.call("listwallets"), [])
+        server.call("loadwallet", "w", True)
+        self.assertNotIn(server.call("gettransaction", sent)["blockhash"], (block, None))
+        self.assertEqual(server.call("getbalances")["mine"]["trusted"], 149 - 225 * 30 / 1e8)
+        server.end(signal.SIGTERM)
+        self.assertEqual(self.started("-keypool=20").call("listwallets"), ["w"])
+
+
 class ReorganisationTest(Case):
     def test_a_block_that_leaves(self):
         own = self.funded()
@@ -249,6 +285,49 @@ class WaitingTest(Case):
         thread.join()
         self.assertEqual(ended, [{"start_height": 0, "stop_height": 3120}])
         self.assertLess(slowest, 0.5)
+
+
+class TogetherTest(Case):
+    """Calls of several clients on wallets that come and go, while blocks come and go: each is answered."""
+
+    def test_together(self):
+        own = self.funded(blocks=3)
+        for name in ("a", "b"):
+            self.call("createwallet", name)
+        numbers, answers, until = random.Random(5), [], time.monotonic() + 4
+
+        def client(seed):
+            numbers, path = random.Random(seed), "/wallet/w"
+            while time.monotonic() < until:
+                words = numbers.choice((
+                    ("getbalances",), ("listunspent", 0), ("sendtoaddress", own, 0.01), ("listtransactions",), ("getnewaddress",),
+                    ("generatetoaddress", 1, OTHER), ("rescanblockchain",), ("unloadwallet", "a"), ("loadwallet", "a"), ("listwallets",),
+                    ("invalidateblock", self.call("getbestblockhash")), ("getwalletinfo",), ("sendtoaddress", OTHER, 0.01, "", "", False, True),
+                ))  # fmt: skip
+                is_free = words[0] in ("unloadwallet", "loadwallet", "listwallets")
+                answers.append((words[0], self.call(*words, path="/" if is_free else numbers.choice((path, path, "/wallet/b")))))
+
+        threads = [threading.Thread(target=client, args=(numbers.random(),)) for _ in range(6)]
+        for thread in threads:
+            thread.start()
+        for thread in threads:
+            thread.join(30)
+            self.assertFalse(thread.is_alive(), "a call waits for ever")
+        self.assertEqual({name for name, _ in answers} >= {"getbalances", "sendtoaddress", "rescanblockchain", "loadwallet"}, True)
+        for name, answer in answers:
+            if isinstance(answer, dict) and "code" in answer:
+                self.assertIn(answer["code"], CODES, (name, answer))
+                self.assertNotRegex(answer["message"], r"^[A-Z][A-Za-z]*(Error|Exception)\b", name)
+        # What it has then is what a wallet of the same keys finds, once what waits no more spends nothing.
+        waiting = self.call("getrawmempool")
+        for id in {it["txid"] for it in self.call("listtransactions", "*", 10**6, path="/wallet/w") if it["confirmations"] == 0} - {*waiting}:
+            self.call("abandontransaction", id, path="/wallet/w")
+        text = self.call("listdescriptors", True, path="/wallet/w")["descriptors"]
+        self.call("generatetoaddress", 1, OTHER)
+        self.call("createwallet", "again", False, True)
+        self.call("importdescriptors", [{"desc": it["desc"], "timestamp": 0, "range": it["range"]} for it in text], path="/wallet/again")
+        found = [{(it["txid"], it["vout"]) for it in self.call("listunspent", path=f"/wallet/{name}")} for name in ("w", "again")]
+        self.assertEqual(found[0], found[1])
 
 
 class RandomTest(Case):
