@@ -19,6 +19,7 @@ from wakotehu.rpc.checksums import checksum
 from wakotehu.rpc.node import CALLS
 from wakotehu.rpc.wallets import Wallets
 from wakotehu.wallet import Settings
+from wakotehu.wallet.store import Store
 from wallet_steps import OTHER, played
 
 HERE = os.path.dirname(os.path.abspath(__file__))
@@ -184,6 +185,12 @@ class KeptTest(Case):
         with open(os.path.join(self.folder.name, "bad.sqlite"), "wb") as file:
             file.write(b"x" * 5000)
         self.assertEqual(self.call("loadwallet", "bad")["code"], -4)
+        self.assertEqual(self.call("createwallet", "bad")["code"], -4)
+        # As after a crash while it was made.
+        Store(os.path.join(self.folder.name, "begun.sqlite")).close()
+        self.assertEqual(self.call("loadwallet", "begun")["code"], -18)
+        self.assertEqual(self.call("createwallet", "begun")["name"], "begun")
+        self.call("unloadwallet", "begun")
         self.call("unloadwallet", "w", False)
         self.assertEqual(node.wallets.at_start(), ["other"])
 

@@ -14,6 +14,7 @@ from ..chainstate import Coin
 from ..errors import DecodeFailed, NotAccepted
 from ..wallet import Settings, Wallet
 from ..wallet.hosts import IndexHost, Seen
+from ..wallet.store import is_whole
 from .errors import (
     INVALID_PARAMETER, WALLET_ENCRYPTION_FAILED, WALLET_ERROR, WALLET_NOT_FOUND, WALLET_NOT_SPECIFIED, RpcError,
 )  # fmt: skip
@@ -82,7 +83,7 @@ class Wallets:
     def is_there(self, name: str) -> bool:
         """Whether there is a wallet of a name, loaded or not."""
         file = self._file(name)
-        return name in self.loaded or name in self._others or (file is not None and os.path.exists(file))
+        return name in self.loaded or name in self._others or (file is not None and is_whole(file))
 
     def names(self) -> List[str]:
         """All wallets, loaded or not."""

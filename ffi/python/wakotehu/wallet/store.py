@@ -98,6 +98,19 @@ class Store:
             other.close()
 
 
+def is_whole(path: str) -> bool:
+    """Whether a file was written at least once: else its wallet was begun, and nobody was told of it."""
+    if not os.path.exists(path):
+        return False
+    file = sqlite3.connect(path)
+    try:
+        return file.execute("SELECT 1 FROM meta").fetchone() is not None
+    except sqlite3.Error as error:
+        return "no such table" not in str(error)
+    finally:
+        file.close()
+
+
 def _make(path: str) -> None:
     """Makes a file where there is none, which its owner alone reads: it has the keys."""
     os.close(os.open(path, os.O_RDWR | os.O_CREAT | os.O_NOFOLLOW, 0o600))

@@ -23,7 +23,7 @@ from .errors import WalletError
 from .funding import FALLBACK, Funded, Payment, Plan, Purse, fund
 from .hosts import PART, Host, host_of
 from .keys import DEFAULT_TYPE, KEYPOOL, TYPES, Owned, destination, expect_type, first_descriptors, read
-from .store import Kept, Store, changed, restored
+from .store import Kept, Store, changed, is_whole, restored
 
 #: The bytes of a seed (BIP 32).
 SEED, LEAST_SEED, MOST_SEED = 32, 16, 64
@@ -74,7 +74,7 @@ class Wallet:
         if pool is not None:
             arguments.instance(pool, Pool, "pool")
         file = None if path is None else arguments.path(path, "path")
-        is_new = file is None or not os.path.exists(file)
+        is_new = file is None or not is_whole(file)
         self._begin(chain if hasattr(chain, "seen") else host_of(chain, pool))
         self.store = None if file is None else Store(file)
         if is_new:
