@@ -147,7 +147,7 @@ class PaymentsTest(unittest.TestCase):
         bench, pool, wallet = funded(5)
         with bench:
             id = wallet.pay(OTHER, 120 * COIN)
-            self.assertEqual([wallet.ledger.conflicting(own) for own in wallet.ledger.in_order()], [[]] * 5)
+            self.assertEqual([wallet.ledger.conflicting(own) for own in wallet.ledger.in_order()], [[]] * 6)
             heights = [bench.coin(it.id, it.index).height for it in pool.entry(id).tx.inputs]
             self.assertEqual(heights, [1, 2, 3])
 
@@ -346,7 +346,7 @@ class Replay:
         for entry in pool:
             is_own = all((it.id, it.index) in mined or self.waiting.get((it.id, it.index), False) for it in entry.tx.inputs)
             self._do(entry.tx, scripts, 0, None)
-            self.waiting.update({(entry.id, at): is_own for at in range(len(entry.tx.outputs))})
+            self.waiting.update({(entry.id, at): is_own for at, out in enumerate(entry.tx.outputs) if out.script in scripts})
 
     def _do(self, tx, scripts, height, block):
         spent = [self.coins.pop((it.id, it.index), None) for it in tx.inputs]
@@ -379,7 +379,8 @@ class Run:
         self.count = 0
 
     def step(self):
-        kind = self.random.choices(("pay", "come", "mine", "own", "reorg", "bump", "restart", "invalid"), (30, 15, 10, 3, 2, 4, 1, 1))[0]
+        weights = (30, 15, 10, 3, 2, 4, 1, 0.05 if HEAVY else 1)
+        kind = self.random.choices(("pay", "come", "mine", "own", "reorg", "bump", "invalid", "restart"), weights)[0]
         try:
             getattr(self, kind)()
         except WalletError as error:

@@ -2,7 +2,8 @@
 
 from dataclasses import dataclass
 from functools import lru_cache
-from typing import Dict, List, NamedTuple, Optional
+from itertools import compress
+from typing import Dict, List, NamedTuple, Optional, Tuple
 
 from ..addresses import address_of, base58, spelled
 from ..encoding import hash160
@@ -101,7 +102,7 @@ class Owned:
 
     def scripts(self, place: int) -> List[Script]:
         """Those of its scripts that the chain has rules for."""
-        return [it for it in self.found.at(place) if is_spendable(it) or not self.found.is_solvable]
+        return list(compress(self.found.at(place), _which(self.text, self.low)))
 
     def shown(self, is_private: bool) -> str:
         """The descriptor with its checksum."""
@@ -112,6 +113,13 @@ class Owned:
 def is_spendable(script: Script) -> bool:
     """Whether the chain has rules for a script, and for the one whose hash it pays to."""
     return all(kind_of(code)[0] in SPENDABLE for code in (script.code, script.inner) if code is not None)
+
+
+@lru_cache(maxsize=1000)
+def _which(text: str, place: int) -> Tuple[bool, ...]:
+    """Which of a descriptor's scripts the chain has rules for: the same at all places."""
+    found = read(text)
+    return tuple(is_spendable(it) or not found.is_solvable for it in found.at(place))
 
 
 def expect_spendable(text: str) -> None:
