@@ -15,6 +15,7 @@ from bitcoin.signmessage import BitcoinMessage, VerifyMessage
 from bitcoin.wallet import P2PKHBitcoinAddress
 from servers import Running
 from test_datadir import FolderCase
+from wakotehu.encoding import Output, Transaction, write_transaction
 from wakotehu.rpc.checksums import checksum
 from wakotehu.rpc.node import CALLS
 from wakotehu.rpc.wallets import Wallets
@@ -292,6 +293,32 @@ class WaitingTest(Case):
         thread.join()
         self.assertEqual(ended, [{"start_height": 0, "stop_height": 3120}])
         self.assertLess(slowest, 0.5)
+
+
+class ManyTest(Case):
+    """What a client sends is read in a time that grows with it, while others are answered."""
+
+    def test_long_requests(self):
+        own = self.funded()
+        address, text = self.call("getnewaddress"), f"pkh({KEY}/7)"
+        raw = write_transaction(Transaction(2, [], [Output(1000, b"\x51")] * 60_000, 0)).hex()
+        row = {"desc": f"{text}#{checksum(text)}", "timestamp": "now"}
+        for name, *params in (
+            ("listunspent", 0, 9, [own, address] * 100_000), ("sendmany", "", {own: 1}, 1, "", [address] * 300_000), ("fundrawtransaction", raw),
+            ("fundrawtransaction", raw, {"subtractFeeFromOutputs": list(range(60_000))}), ("lockunspent", True, [{"txid": "00" * 32, "vout": 0}] * 100_000),
+            ("importdescriptors", [row] * 5_000), ("importdescriptors", [{**row, "desc": f"pk({number:066x})", "timestamp": 0} for number in range(50_000)]),
+            ("setlabel", own, "x" * 3_000_000), ("getnewaddress", "y" * 3_000_000), ("sendtoaddress", own, 1, "z" * 3_000_000),
+        ):  # fmt: skip
+            began, slowest = time.monotonic(), 0.0
+            thread = threading.Thread(target=self.call, args=(name, *params))
+            thread.start()
+            while thread.is_alive():
+                since = time.monotonic()
+                self.call("getblockcount")
+                slowest = max(slowest, time.monotonic() - since)
+            with self.subTest(name):
+                self.assertLess(slowest, 2)
+                self.assertLess(time.monotonic() - began, 20)
 
 
 class TogetherTest(Case):

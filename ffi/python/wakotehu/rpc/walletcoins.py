@@ -1,6 +1,6 @@
 """Calls on what a wallet has: its balances, coins and transactions."""
 
-from typing import Any, Dict, Iterator, List, NamedTuple, Optional, Sequence, Tuple
+from typing import Any, Dict, Iterator, List, NamedTuple, Optional, Set, Tuple
 
 from ..chainstate import show
 from ..encoding import GENESIS, block_at_front
@@ -60,7 +60,7 @@ class _Query(NamedTuple):
 
     least: int
     most: int
-    scripts: Optional[Sequence[bytes]]
+    scripts: Optional[Set[bytes]]
     includes_unsafe: bool
     least_value: int = 0
     most_value: int = 1 << 63
@@ -85,15 +85,15 @@ def listunspent(
         return [_shown_coin(wallet, coin) for coin in _chosen(wallet, query)]
 
 
-def _scripts(given: List[Any]) -> List[bytes]:
-    found: List[bytes] = []
+def _scripts(given: List[Any]) -> Set[bytes]:
+    found: Set[bytes] = set()
     for it in given:
         script = address_script(text(it))
         if script is None:
             raise RpcError(INVALID_ADDRESS_OR_KEY, f"Invalid Bitcoin address: {it[:100]}")
         if script in found:
             raise RpcError(INVALID_PARAMETER, f"Invalid parameter, duplicated address: {it}")
-        found.append(script)
+        found.add(script)
     return found
 
 

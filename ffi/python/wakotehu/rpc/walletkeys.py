@@ -22,6 +22,8 @@ from .wallets import GROUP, named, rescanned, using
 
 #: Wallets of this version have all that Bitcoin Core 0.21 knows.
 WALLET_VERSION = 169900
+#: So many keys may be known beyond the last used one.
+MOST_KEYPOOL = 100_000
 _NO_PRIVATE = "Cannot import private keys to a wallet with private keys disabled"
 
 
@@ -137,7 +139,7 @@ def keypoolrefill(node: Node, newsize: Any) -> None:
     """Has so many keys known beyond those that were given."""
     with using(node) as wallet:
         size = None if newsize is None else integer(newsize)
-        if size is not None and not 0 <= size <= 1_000_000:
+        if size is not None and not 0 <= size <= MOST_KEYPOOL:
             raise RpcError(INVALID_PARAMETER, "Invalid parameter, expected valid size.")
         for own in list(wallet.owned.values()):
             wallet.refill(own, size or None)

@@ -2,7 +2,7 @@
 
 import os
 import sqlite3
-from typing import Any, Dict, List, NamedTuple, Optional, Tuple
+from typing import Any, Dict, List, NamedTuple, Optional, Set, Tuple
 
 from ..chainstate import show
 from ..encoding import Output, write_transaction
@@ -83,7 +83,7 @@ def sendtoaddress(node: Node, address: Any, value: Any, comment: Any, comment_to
         raise RpcError(WALLET_ERROR, "wallet does not have the \"avoid reuse\" feature enabled")
     is_verbose = verbose is not None and boolean(verbose)
     with using(node) as wallet:
-        payments = _payments({text(address): value}, [address] if takes else [])
+        payments = _payments({text(address): value}, {address} if takes else set())
         return _sent(wallet, payments, fees, notes, is_verbose)
 
 
@@ -97,14 +97,14 @@ def sendmany(node: Node, dummy: Any, amounts: Any, minconf: Any, comment: Any, s
     if dummy is not None and text(dummy) != "":
         raise RpcError(INVALID_PARAMETER, 'Dummy value must be set to ""')
     notes = {"comment": text(comment)} if comment is not None and comment != "" else {}
-    takers = [] if subtractfeefrom is None else [text(it) for it in array(subtractfeefrom)]
     fees = _fees(target, mode, rate, replaceable)
     is_verbose = verbose is not None and boolean(verbose)
     with using(node) as wallet:
+        takers = {text(it) for it in (() if subtractfeefrom is None else array(subtractfeefrom))}
         return _sent(wallet, _payments(object_of(amounts), takers), fees, notes, is_verbose)
 
 
-def _payments(amounts: Dict[str, Any], takers: List[str]) -> List[Payment]:
+def _payments(amounts: Dict[str, Any], takers: Set[str]) -> List[Payment]:
     """What is paid (Bitcoin Core's `ParseRecipients`)."""
     found: Dict[bytes, Payment] = {}
     for address, value in amounts.items():
@@ -239,15 +239,15 @@ def _rate_of(given: Object) -> _Fees:
     return _Fees(amount(given["feeRate"]), given.get("replaceable") is True)
 
 
-def _positions(given: List[Any], count: int) -> List[int]:
+def _positions(given: List[Any], count: int) -> Set[int]:
     """The places of outputs."""
-    found: List[int] = []
+    found: Set[int] = set()
     for it in given:
         at = integer(it)
         for is_wrong, what in ((at in found, "duplicated position"), (at < 0, "negative position"), (at >= count, "position too large")):
             if is_wrong:
                 raise RpcError(INVALID_PARAMETER, f"Invalid parameter, {what}: {at}")
-        found.append(at)
+        found.add(at)
     return found
 
 

@@ -102,12 +102,13 @@ def fund(plan: Plan, purse: Purse) -> Funded:
     """A transaction of a plan; `WalletError` where the coins aren't enough, or an output is too small."""
     outputs, sum_ = [own.output for own in plan.payments], _Sum()
     expect_outputs(outputs)
+    paid = sum(out.value for out in outputs)
     for spends in plan.inputs:
         _take(sum_, spends, purse)
     chosen = {(it.id, it.index) for it in plan.inputs}
     added = (it for it in purse.coins if it.outpoint not in chosen) if plan.may_add else iter(())
     while True:
-        found = _finished(plan, sum_, outputs)
+        found = _finished(plan, sum_, outputs) if sum_.inputs and sum_.value >= paid else None
         if found is not None:
             return found
         coin = next((it for it in added if _may_take(it, plan, purse)), None)
@@ -117,9 +118,11 @@ def fund(plan: Plan, purse: Purse) -> Funded:
 
 
 def expect_outputs(outputs: Sequence[Output]) -> None:
-    """That a transaction has outputs, and none of them too small."""
+    """That a transaction has outputs, none of them too small, and not too many."""
     if not outputs:
         raise WalletError(INSUFFICIENT_FUNDS, "Transaction must have at least one recipient")
+    if sum(9 + len(out.script) for out in outputs) > MOST_SIZE:
+        raise WalletError(INSUFFICIENT_FUNDS, "Transaction too large")
     if any(out.value < dust(out) for out in outputs):
         raise WalletError(INSUFFICIENT_FUNDS, "Transaction amount too small")
 
@@ -142,8 +145,6 @@ def _finished(plan: Plan, sum_: _Sum, outputs: List[Output]) -> Optional[Funded]
     """The transaction, where what it spends is enough."""
     paid = sum(out.value for out in outputs)
     takers = [at for at, own in enumerate(plan.payments) if own.pays_fee]
-    if not sum_.inputs or sum_.value < paid:
-        return None
     bare = Transaction(plan.version, sum_.inputs, outputs, plan.lock_time)
     change = Output(0, plan.change())
     with_change = bare._replace(outputs=[*outputs, change])

@@ -5,6 +5,7 @@ import sqlite3
 import threading
 import time
 from contextlib import contextmanager
+from dataclasses import replace
 from typing import Any, Callable, Dict, Iterator, List, NamedTuple, Optional, Sequence, Set, Tuple, Union
 
 from .. import arguments
@@ -31,8 +32,8 @@ SEED, LEAST_SEED, MOST_SEED = 32, 16, 64
 BUMP = 5000
 #: Blocks that were made so many seconds before a key may have its coins (`TIMESTAMP_WINDOW`).
 WINDOW = 7200
-#: So many scripts are remembered with their keys.
-MOST_SCRIPTS = 10_000
+#: So many scripts are remembered with their keys; so many a wallet has.
+MOST_SCRIPTS, MOST_OWN = 10_000, 2_000_000
 NO_KEYS = "Error: This wallet has no available keys"
 
 
@@ -90,6 +91,8 @@ class Wallet:
         self.host, self.lock = host, threading.RLock()
         best = host.seen(-1).best
         self.owned: Dict[int, Owned] = {}
+        #: The numbers of descriptors by their texts without private keys.
+        self._texts: Dict[str, int] = {}
         #: Of each script the number of its descriptor, its place there, and which of the place's scripts it is.
         self._scripts: Dict[bytes, Tuple[int, int, int]] = {}
         self._cache: Dict[bytes, Script] = {}
@@ -117,6 +120,7 @@ class Wallet:
         self.ledger.advance(kept.meta["best"], kept.meta["height"])
         for own in kept.descriptors:
             self.owned[own.number] = own
+            self._texts[own.found.text] = own.number
             self._learn(own)
         restored(self.ledger, kept)
 
@@ -181,8 +185,9 @@ class Wallet:
             found.name, found.settings, found.store = self.name, self.settings, None
             found.has_private, found.is_blank = self.has_private, self.is_blank
             found._begin(host_of(chain, pool))
-            found.owned = {number: Owned(**vars(own)) for number, own in self.owned.items()}
+            found.owned = {number: replace(own) for number, own in self.owned.items()}
             found._scripts.update(self._scripts)
+            found._texts = dict(self._texts)
             found.ledger = self.ledger.copy(found._scripts.__contains__)
             found.labels, found.locked, found.rate = dict(self.labels), dict(self.locked), self.rate
             return found
@@ -297,23 +302,23 @@ class Wallet:
         """Adds a descriptor, or more places of one that is there; an active one gives addresses from now on. The chain isn't
         looked through. `Underivable` where a key of it can't be derived."""
         with self.lock:
-            own = self._same(text) or Owned(max(self.owned, default=0) + 1, text, timestamp, low, high, next)
+            number = self._texts.get(read(text).text, len(self.owned) + 1)
+            own = Owned(number, text, timestamp, low, high, next)
+            if number in self.owned:
+                own = replace(self.owned[number])
             own.timestamp = min(own.timestamp, timestamp)
             own.low, own.high, own.next = min(own.low, low), max(own.high, high), max(own.next, next)
             own.text, own.is_active, own.is_internal, own.known = text, is_active, is_internal, own.low
             if own.found.is_range:
                 own.high = max(own.high, own.next + self.settings.keypool)
             self._learn(own)
-            self.owned[own.number] = own
+            self.owned[number], self._texts[own.found.text] = own, number
+            # Those with the same keys may have no private ones.
+            self._cache.clear()
             if is_active:
                 self._make_active(own)
             self._unkept["owned"][own.number] = None
             return own
-
-    def _same(self, text: str) -> Optional[Owned]:
-        """The descriptor that has the same keys."""
-        own = read(text).text
-        return {it.found.text: it for it in self.owned.values()}.get(own)
 
     def _make_active(self, own: Owned) -> None:
         for other in self.owned.values():
@@ -325,6 +330,8 @@ class Wallet:
     def _learn(self, own: Owned) -> None:
         """Knows the scripts of a descriptor's range."""
         high = own.high if own.found.is_range else own.low + 1
+        if len(self._scripts) + high - max(own.known, own.low) > MOST_OWN:
+            raise WalletError(WALLET_ERROR, f"A wallet has at most {MOST_OWN} scripts")
         for place in range(max(own.known, own.low), high):
             for which, script in enumerate(own.scripts(place)):
                 if script.code not in self._scripts:
