@@ -115,12 +115,21 @@ class DescriptorsTest(Case):
         self.assertEqual(self.call("getaddressesbylabel", "a label", path="/wallet/other"), {first: {"purpose": "receive"}})
         self.assertEqual(self.call("dumpprivkey", first, path="/wallet/other"), key)
         text = self.call("listdescriptors", True, path="/wallet/w")["descriptors"][0]["desc"]
+        sent = self.call("sendtoaddress", first, 1, path="/wallet/w")
+        self.assertEqual(self.call("gettransaction", sent, path="/wallet/other")["confirmations"], 0)
+        self.call("createwallet", "fourth", False, True)
+        self.call("importprivkey", key, path="/wallet/fourth")
+        self.assertEqual(self.call("gettransaction", sent, path="/wallet/fourth")["trusted"], True)
+        self.call("generatetoaddress", 1, OTHER)
         self.call("createwallet", "third", False, True)
-        for moment, balance in (("now", 0), (int(time.time()) + 10**6, 0), (0, 50)):
+        for moment, balance in (("now", 0), (int(time.time()) + 10**6, 0), (0, 50 - 225 * 20 / 1e8)):
             row = {"desc": text, "timestamp": moment, "active": True}
             answer = self.call("importdescriptors", [row], path="/wallet/third")
             self.assertEqual(answer, [{"success": True, "warnings": ["Range not given, using default keypool range"]}])
             self.assertEqual(self.call("getbalance", path="/wallet/third"), balance)
+            text = self.call("listdescriptors", True, path="/wallet/w")["descriptors"][1]["desc"]
+            self.call("importdescriptors", [{"desc": text, "timestamp": moment, "internal": True, "active": True}], path="/wallet/third")
+            text = row["desc"]
 
     def test_refusals(self):
         self.call("createwallet", "w")

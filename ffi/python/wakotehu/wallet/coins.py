@@ -87,6 +87,8 @@ class Ledger:
         #: Of those that aren't mined, as long as nothing changes: the lowest block that made one impossible, and who is trusted.
         self._lowest: Dict[bytes, int] = {}
         self._trusted: Dict[bytes, bool] = {}
+        #: As long as no block comes or leaves: what `_mined_coins` answers.
+        self._oldest: Optional[List[Outpoint]] = None
 
     def copy(self, is_mine: Callable[[bytes], bool]) -> "Ledger":
         """Another one that is the same."""
@@ -132,6 +134,8 @@ class Ledger:
         """An output is the wallet's."""
         self.coins[at] = out
         self._lowest, self._trusted = {}, {}
+        if self.records[at[0]].place is not None:
+            self._oldest = None
         if not any(self.records[id].place for id in self.spenders.get(at, ())):
             self.unspent[at] = None
 
@@ -162,7 +166,7 @@ class Ledger:
     def _place(self, record: Record, place: Place) -> None:
         if record.place is not None and record.place != place:
             self._displace(record)
-        record.place, record.is_abandoned = place, False
+        record.place, record.is_abandoned, self._oldest = place, False, None
         self.pending.pop(record.id, None)
         self.waiting.discard(record.id)
         own = self._mined.setdefault(place.block, [])
@@ -173,7 +177,7 @@ class Ledger:
         self._change(record.id)
 
     def _displace(self, record: Record) -> None:
-        record.place = None
+        record.place, self._oldest = None, None
         self.pending[record.id] = None
         for at in spent_by(record.tx):
             if at in self.coins and not any(self.records[id].place for id in self.spenders[at]):
@@ -316,21 +320,22 @@ class Ledger:
 
     def available(self) -> Iterator[Coin]:
         """The coins that the next block may spend, mined ones first, the oldest first; then those of transactions that wait."""
-        waiting: List[Coin] = []
-        found: List[Tuple[int, int, Coin]] = []
-        for at in self.unspent:
+        for at in self._mined_coins():
             record = self.records[at[0]]
-            if not self.is_mature(record) or self.is_spent(at):
-                continue
-            if record.place is not None:
-                coin = Coin(at, self.coins[at], self.depth(record), True)
-                found.append((record.place.height, record.place.number, coin))
-            elif at[0] in self.waiting and self.depth(record) == 0:
-                is_replaced = "replaces_txid" in record.notes or "replaced_by_txid" in record.notes
-                waiting.append(Coin(at, self.coins[at], 0, not is_replaced and self.is_trusted(record)))
-        found.sort(key=lambda it: (it[0], it[1], it[2].outpoint[1]))
-        yield from (coin for _, _, coin in found)
-        yield from sorted(waiting, key=lambda it: (self.records[it.outpoint[0]].order, it.outpoint[1]))
+            if self.is_mature(record) and not self.is_spent(at):
+                yield Coin(at, self.coins[at], self.depth(record), True)
+        for record in sorted((self.records[id] for id in self.waiting), key=lambda it: it.order):
+            is_replaced = "replaces_txid" in record.notes or "replaced_by_txid" in record.notes
+            for at in ((record.id, index) for index in range(len(record.tx.outputs))):
+                if at in self.unspent and self.depth(record) == 0 and not self.is_spent(at):
+                    yield Coin(at, self.coins[at], 0, not is_replaced and self.is_trusted(record))
+
+    def _mined_coins(self) -> List[Outpoint]:
+        """The outputs of mined transactions that no mined one spends, the oldest first."""
+        if self._oldest is None:
+            rows = ((self.records[at[0]].place, at) for at in self.unspent)
+            self._oldest = [at for _, _, _, at in sorted((it.height, it.number, at[1], at) for it, at in rows if it is not None)]
+        return self._oldest
 
     def balances(self, least_depth: int = 0) -> Balances:
         """The sums of what isn't spent; of what is trusted only at some depth or deeper."""

@@ -3,7 +3,7 @@
 import json
 import os
 import sqlite3
-from typing import Any, Dict, Iterable, List, NamedTuple, Optional, Tuple
+from typing import Any, Dict, List, NamedTuple, Optional, Tuple
 
 from ..encoding import read_transaction
 from .coins import Ledger, Place, Record
@@ -70,9 +70,8 @@ class Store:
         labels = {script: (label, purpose) for script, label, purpose in ask("SELECT * FROM labels")}
         return Kept(dict(ask("SELECT * FROM meta")), owned, records, conflicts, labels)
 
-    def write(self, kept: Kept, gone: Iterable[bytes] = ()) -> None:
-        """Keeps what is given, in one step: of a record that is given its conflicts are kept, and no others; the labels of the
-        scripts that are gone go."""
+    def write(self, kept: Kept) -> None:
+        """Keeps what is given, in one step; of a record that is given its conflicts are kept, and no others."""
         put = self._file.executemany
         self._file.execute("BEGIN IMMEDIATE")
         try:
@@ -82,7 +81,6 @@ class Store:
             put("DELETE FROM conflicts WHERE id = ?", ((record.id,) for record in kept.records))
             put("INSERT INTO conflicts VALUES (?, ?, ?)", kept.conflicts)
             put("INSERT OR REPLACE INTO labels VALUES (?, ?, ?)", ((it, *both) for it, both in kept.labels.items()))
-            put("DELETE FROM labels WHERE script = ?", ((script,) for script in gone))
             self._file.execute("COMMIT")
         except BaseException:
             self._file.execute("ROLLBACK")

@@ -105,7 +105,10 @@ class Wallet:
         self.scanning: Optional[Tuple[float, float]] = None
         self._heard: Set[bytes] = set()
         self._changes = -2
+        self._is_closed = False
+        #: What isn't kept yet, and what was kept last.
         self._unkept: Dict[str, Dict[Any, None]] = {"owned": {}, "labels": {}}
+        self._kept_meta: Object = {}
 
     def _add_first(self, seed: bytes) -> None:
         for type, row in TYPES.items():
@@ -129,21 +132,21 @@ class Wallet:
         if self.store is None:
             return
         records, conflicts = changed(self.ledger)
-        labels = {script: self.labels[script] for script in self._unkept["labels"] if script in self.labels}
-        gone = [script for script in self._unkept["labels"] if script not in self.labels]
-        meta = {"name": self.name, "private": self.has_private, "blank": self.is_blank, "best": self.ledger.best,
-                "height": self.ledger.height}  # fmt: skip
+        labels = {script: self.labels[script] for script in self._unkept["labels"]}
+        meta = self._meta()
         if self._kept_meta != meta or records or self._unkept["owned"] or self._unkept["labels"]:
             kept = Kept(meta, [self.owned[it] for it in self._unkept["owned"]], records, conflicts, labels)
             try:
-                self.store.write(kept, gone)
+                self.store.write(kept)
             except sqlite3.Error as error:
                 raise WalletError(WALLET_ERROR, f"Error: The wallet's file can't be written: {error}") from error
         self._kept_meta = meta
         self.ledger.changed.clear()
         self._unkept = {"owned": {}, "labels": {}}
 
-    _kept_meta: Object = {}
+    def _meta(self) -> Object:
+        return {"name": self.name, "private": self.has_private, "blank": self.is_blank, "best": self.ledger.best,
+                "height": self.ledger.height}  # fmt: skip
 
     def close(self) -> None:
         """Closes its file; the wallet isn't used any more. One without a file stays as it is."""
@@ -153,28 +156,21 @@ class Wallet:
                 self.store.close()
                 self.store, self._is_closed = None, True
 
-    _is_closed = False
-
     def backup(self, path: arguments.Path) -> None:
         """Writes a copy of it into a file."""
         path = arguments.path(path, "path")
         with self.used():
+            self.keep()
             if self.store is not None:
                 self.store.copy_to(path)
                 return
-            other = Store(None)
+            ledger, other = self.ledger, Store(None)
             try:
-                self._write_all(other)
+                conflicts = [(id, *it) for id in ledger.records for it in ledger.conflicts_of(id).items()]
+                other.write(Kept(self._meta(), list(self.owned.values()), ledger.in_order(), conflicts, self.labels))
                 other.copy_to(path)
             finally:
                 other.close()
-
-    def _write_all(self, store: Store) -> None:
-        ledger = self.ledger
-        meta = {"name": self.name, "private": self.has_private, "blank": self.is_blank, "best": ledger.best,
-                "height": ledger.height}  # fmt: skip
-        conflicts = [(id, *it) for id in ledger.records for it in ledger.conflicts_of(id).items()]
-        store.write(Kept(meta, list(self.owned.values()), ledger.in_order(), conflicts, self.labels))
 
     def copy(self, chain: Any, pool: Optional[Pool] = None) -> "Wallet":
         """The same wallet on a copy of its chain, without a file. Each then goes its own way."""
@@ -215,9 +211,12 @@ class Wallet:
             if seen.waiting is not None:
                 self._hear(seen.waiting)
             elif seen.changes == -1:
-                live = (ledger.records[id] for id in ledger.pending)
-                ledger.set_waiting({own.id for own in live if ledger.is_live(own) and not own.tx.is_coinbase})
+                ledger.set_waiting({id for id in ledger.pending if self._may_wait(ledger.records[id])})
             self._changes = seen.changes
+
+    def _may_wait(self, record: Record) -> bool:
+        """Whether one waits where no pool says it."""
+        return self.ledger.is_live(record) and not record.tx.is_coinbase and "replaced_by_txid" not in record.notes
 
     def _move(self, best: bytes) -> None:
         ledger, height = self.ledger, self.host.height(best)
@@ -263,8 +262,10 @@ class Wallet:
         stop = None if stop is None else arguments.number(stop, "stop")
         if is_ending is not None and not callable(is_ending):
             raise TypeError(f"is_ending must be a function, not {type(is_ending).__name__}")
-        if self.scanning is not None:
-            raise WalletError(WALLET_ERROR, "Wallet is currently rescanning. Abort existing rescan or wait.")
+        with self.lock:
+            if self.scanning is not None:
+                raise WalletError(WALLET_ERROR, "Wallet is currently rescanning. Abort existing rescan or wait.")
+            self.scanning = began, 0.0
         try:
             while is_ending is None or not is_ending():
                 with self.used():
@@ -313,8 +314,9 @@ class Wallet:
                 own.high = max(own.high, own.next + self.settings.keypool)
             self._learn(own)
             self.owned[number], self._texts[own.found.text] = own, number
-            # Those with the same keys may have no private ones.
+            # Those with the same keys may have no private ones; what waits may pay to them.
             self._cache.clear()
+            self._heard, self._changes = set(), -2
             if is_active:
                 self._make_active(own)
             self._unkept["owned"][own.number] = None
@@ -413,7 +415,7 @@ class Wallet:
 
     def address(self, label: str = "", type: str = DEFAULT_TYPE) -> str:
         """A new address, with a label."""
-        arguments.text(label, "label"), arguments.text(type, "type")
+        label, type = arguments.text(label, "label"), arguments.text(type, "type")
         with self.used():
             expect_type(type)
             script = self.new_script(type)
