@@ -168,6 +168,11 @@ class PaymentsTest(unittest.TestCase):
                     wallet.pay(OTHER, value)
                 self.assertEqual((caught.exception.code, str(caught.exception)), (-6, text))
             self.assertEqual((len(pool), len(wallet.ledger.pending)), (0, 0))
+            wallet.settings = Settings(fallback=0)
+            with self.assertRaises(WalletError) as caught:
+                wallet.pay(OTHER, COIN)
+            self.assertIn("Fallbackfee is disabled", str(caught.exception))
+            self.assertEqual(pool.entry(wallet.pay(OTHER, COIN, rate=3000)).fee, 675)
 
     def test_a_fee_is_bumped(self):
         bench, pool, wallet = funded()
@@ -379,7 +384,7 @@ class Run:
         self.count = 0
 
     def step(self):
-        weights = (30, 15, 10, 3, 2, 4, 1, 0.05 if HEAVY else 1)
+        weights = (30, 15, 2, 1, 1, 3, 0.5, 0.03) if HEAVY else (30, 15, 10, 3, 2, 4, 1, 1)
         kind = self.random.choices(("pay", "come", "mine", "own", "reorg", "bump", "invalid", "restart"), weights)[0]
         try:
             getattr(self, kind)()
@@ -456,9 +461,8 @@ class ReplayTest(unittest.TestCase):
             run, began = Run(7, folder), time.monotonic()
             with run.bench:
                 while run.count < 20_000 or run.bench.height() < 5_000:
-                    if run.random.random() < 0.8:
-                        run.step()
-                    if len(run.pool) > 100 or run.random.random() < 0.15:
+                    run.step()
+                    if run.random.random() < 0.1:
                         run.pool.mine(1, run.wallet.address())
                 made = time.monotonic()
                 run.compared(self)

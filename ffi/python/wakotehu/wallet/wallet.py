@@ -16,7 +16,7 @@ from ..errors import DecodeFailed, NotAccepted
 from ..pool import Pool
 from ..replacing import REPLACEABLE, money, rate, signals
 from ..rpc.descriptors import Script, Underivable, curve
-from ..rpc.errors import INVALID_ADDRESS_OR_KEY, INVALID_PARAMETER, KEYPOOL_RAN_OUT, WALLET_ERROR, WALLET_NOT_FOUND
+from ..rpc.errors import INSUFFICIENT_FUNDS, INVALID_ADDRESS_OR_KEY, INVALID_PARAMETER, KEYPOOL_RAN_OUT, WALLET_ERROR, WALLET_NOT_FOUND
 from ..rpc.signing import Keys, Means, sign_inputs
 from ..rpc.values import MAX_MONEY, Object
 from .coins import Balances, Coin, Ledger, Outpoint, Record
@@ -477,6 +477,9 @@ class Wallet:
     def plan(self, payments: Sequence[Payment], rate: Optional[int] = None) -> Plan:
         """How some payments are made where nothing else is said."""
         own = rate if rate is not None else self.rate or self.settings.fallback
+        if rate is None and not own:
+            message = "Fee estimation failed. Fallbackfee is disabled. Wait a few blocks or enable -fallbackfee."
+            raise WalletError(INSUFFICIENT_FUNDS, message)
         return Plan(payments, own, lambda: self.new_script(is_internal=True, is_taken=False))
 
     def fund(self, plan: Plan) -> Funded:
@@ -588,8 +591,8 @@ class Wallet:
             raise WalletError(INVALID_PARAMETER, message)
         change = next((out for out in tx.outputs if self.is_change(out.script)), None)
         payments = [Payment(out) for out in tx.outputs if out is not change]
-        plan = self.plan(payments or [Payment(out) for out in tx.outputs])
-        plan.rate = max(old_rate + BUMP, self.settings.fallback) if rate_ is None else rate_
+        own = max(old_rate + BUMP, self.settings.fallback) if rate_ is None else rate_
+        plan = self.plan(payments or [Payment(out) for out in tx.outputs], own)
         plan.inputs = [Input(it.id, it.index, b"", sequence) for it in tx.inputs]
         plan.sequence, plan.least_depth = sequence, 1
         if change is not None and payments:
