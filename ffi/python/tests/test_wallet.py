@@ -232,10 +232,16 @@ class PaymentsTest(unittest.TestCase):
         with bench:
             alone = wallet.copy(bench)
             id = alone.pay(OTHER, COIN)
+            self.assertEqual(alone.balance(), 49 * COIN - 4500)
             alone.host.pool, alone._changes = Pool(bench), -2
             self.assertEqual(alone.balance(), 0)
             alone.abandon(id)
             self.assertEqual(alone.balance(), 50 * COIN)
+            waits = wallet.pay(OTHER, COIN)
+            with self.assertRaises(WalletError):
+                wallet.abandon(waits)
+            self.assertEqual(alone.host.pool.add(alone.transaction(id)), id)
+            self.assertEqual(alone.balance(), 49 * COIN - 4500)
 
 
 class FileTest(unittest.TestCase):

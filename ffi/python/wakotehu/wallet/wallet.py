@@ -601,15 +601,13 @@ class Wallet:
         return self.fund(plan), old_fee
 
     def abandon(self, id: bytes) -> None:
-        """A transaction that isn't mined and doesn't wait spends its coins no more."""
+        """A transaction that isn't mined, and doesn't wait in a pool, spends its coins no more."""
         with self.used():
             record = self.record(arguments.id_of(id))
-            if record.place is not None or self.ledger.depth(record) != 0 or self._waits(record):
+            waits = self._changes != -1 and record.id in self.ledger.waiting
+            if record.place is not None or self.ledger.depth(record) != 0 or waits:
                 raise WalletError(INVALID_ADDRESS_OR_KEY, "Transaction not eligible for abandonment")
             self.ledger.abandon(record.id)
-
-    def _waits(self, record: Record) -> bool:
-        return record.id in self.ledger.waiting
 
 
 def type_of(own: Owned) -> str:
