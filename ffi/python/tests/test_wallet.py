@@ -16,7 +16,10 @@ from wakotehu.addresses import address_of, base58, data_of, script_of
 from wakotehu.benches import BenchMiner
 from wakotehu.encoding import Output, block_at_front
 from wakotehu.extendedkeys import HARDENED, PRIVATE, PUBLIC, master
+from wakotehu.rpc.checksums import checksum
 from wakotehu.rpc.descriptors import curve, read_descriptor
+from wakotehu.rpc.errors import RpcError
+from wakotehu.rpc.scripts import without_checksum
 from wakotehu.wallet import Payment, Settings, Wallet, WalletError
 from wakotehu.wallet.keys import expect_spendable, extended_text
 
@@ -102,6 +105,24 @@ class KeysTest(unittest.TestCase):
                 self.assertEqual(found.private, of_regtest(text))
                 self.assertEqual(read_descriptor(found.private).text, found.text)
                 self.assertIs("prv" in text, found.has_private)
+
+    def test_vectors_of_bip_380(self):
+        """Checksums and origins of keys, right ones and wrong ones."""
+        key = "0260b2003c386519fc9eadf2b5cf124dd8eea4c4e68d5e154050a9346ea98ce600"
+        self.assertEqual((without_checksum("raw(deadbeef)#89f8spxm"), checksum("raw(deadbeef)")), ("raw(deadbeef)", "89f8spxm"))
+        for text in ("raw(deadbeef)#", "raw(deadbeef)#89f8spxmx", "raw(deadbeef)#89f8spx", "raw(dedbeef)#89f8spxm", "raw(deadbeef)##9f8spxm",
+                     "raw(\xdc)#00000000"):  # fmt: skip
+            with self.subTest(text), self.assertRaises(RpcError):
+                without_checksum(text)
+        for origin in ("", "[deadbeef/0h/0h/0h]", "[deadbeef/0'/0'/0']", "[deadbeef/0'/0h/0']"):
+            with self.subTest(origin):
+                [script] = read_descriptor(f"pk({origin}{key})").at(0)
+                self.assertEqual(script.code.hex(), f"21{key}ac")
+                self.assertEqual(script.keys[0].path if origin else "", "/0'/0'/0'" if origin else "")
+        for origin in ("[deadbeef/0h/0h/0h/]", "[deadbeef/2147483648]", "[deadbeef/1aa]", "[aaaaaaa]", "[aaaaaaaaa]", "[gaaaaaaa]", "[]", "deadbeef]",
+                       "[deadbeef][deadbeef]"):  # fmt: skip
+            with self.subTest(origin), self.assertRaises(RpcError):
+                read_descriptor(f"pk({origin}{key})")
 
     def test_what_anyone_may_spend_is_refused(self):
         for text in (f"wpkh({A})", f"wsh(pk({A}))", f"sh(wpkh({A}))", f"sh(wsh(pk({A})))", f"tr({A})"):
