@@ -380,7 +380,7 @@ INSIDE = {"addresses.base58", "addresses.data_of", "chainstate.reply_of"} | {
         "keep", "used", "scan_state", "height_at", "add", "refill", "owner", "is_solvable", "is_change", "active", "new_script", "set_label",
         "record", "plan", "fund", "output", "sign", "send", "commit",
     )
-} | {"wallet.type_of"}  # fmt: skip
+}  # fmt: skip
 #: What calls answer, and who is called: nobody makes them.
 ANSWERS = {
     "consensus.Transaction", "consensus.Input", "consensus.Output", "consensus.Parts", "consensus.Block", "consensus.Header",

@@ -97,12 +97,16 @@ class DescriptorsTest(Case):
         self.assertEqual(self.call("getnewaddress", path="/wallet/watch"), self.call("deriveaddresses", row["desc"], [6, 6])[0])
         listed = self.call("listdescriptors", path="/wallet/watch")["descriptors"]
         self.assertEqual([(it["desc"], it["active"], it["internal"], it["next"]) for it in listed], [(row["desc"], True, False, 7)])
-        own = {"desc": f"{both}#{checksum(both)}", "timestamp": 0, "range": 3}
+        own = {"desc": f"{both}#{checksum(both)}", "timestamp": 0, "range": 3, "active": True}
         self.assertEqual(self.call("importdescriptors", [own], path="/wallet/blank"), [{"success": True}])
         self.assertEqual(self.call("listdescriptors", True, path="/wallet/blank")["descriptors"][0]["desc"], own["desc"])
         self.assertNotIn("tprv", json.dumps(self.call("listdescriptors", path="/wallet/blank")))
         address = self.call("deriveaddresses", own["desc"], [1, 1])[0]
         info = self.call("getaddressinfo", address, path="/wallet/blank")
+        self.assertEqual([self.call("getnewaddress", path="/wallet/blank") for _ in range(2)][1], address)
+        bare = f"pk({KEY}/9/*)"
+        [answer] = self.call("importdescriptors", [{**own, "desc": f"{bare}#{checksum(bare)}"}], path="/wallet/blank")
+        self.assertEqual(answer["warnings"], ["Unknown output type, cannot set descriptor to active."])
         self.assertEqual((info["script"], info["sigsrequired"], len(info["pubkeys"]), info["ismine"]), ("multisig", 1, 2, True))
 
     def test_what_was_paid_before(self):

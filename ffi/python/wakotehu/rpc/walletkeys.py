@@ -7,7 +7,7 @@ from ..encoding import double_sha, hash160
 from .descriptors import Descriptor, Underivable, curve, descriptor_range, read_descriptor
 from ..wallet import Wallet, WalletError
 from ..wallet.keys import (
-    DEFAULT_TYPE, Owned, destination, expect_spendable, expect_type, is_spendable, secret_text,
+    DEFAULT_TYPE, FUNCTIONS, Owned, destination, expect_spendable, expect_type, is_spendable, secret_text,
 )  # fmt: skip
 from . import keys
 from .checksums import checksum
@@ -293,7 +293,10 @@ def _imported(wallet: Wallet, given: Object, moment: int) -> List[str]:
     _expect_derivable(wallet, found, low)
     if wallet.has_private and _lacks_keys(found, low):
         warnings.append("Not all private keys provided. Some wallet functionality may return unexpected errors")
-    added = wallet.add(found.private, moment, low, high, next, flags["active"], flags["internal"])
+    gives = flags["active"] and own.partition("(")[0] in FUNCTIONS
+    if flags["active"] and not gives:
+        warnings.append("Unknown output type, cannot set descriptor to active.")
+    added = wallet.add(found.private, moment, low, high, next, gives, flags["internal"])
     if not found.is_range and not flags["internal"]:
         _set_labels(wallet, added, label)
     return warnings

@@ -33,6 +33,8 @@ TYPES: Dict[str, AddressType] = {
     "legacy": AddressType("pkh({key}/44'/{coin}'/0'/{branch}/*)"), "p2sh-segwit": AddressType(None),
     "bech32": AddressType(None), "bech32m": AddressType(None),
 }  # fmt: skip
+#: The types of the addresses that functions of descriptors give.
+FUNCTIONS = {"pkh": "legacy", "sh": "legacy"}
 #: The type of addresses where none is asked for.
 DEFAULT_TYPE = "legacy"
 #: The kinds of scripts that the chain has rules for.
@@ -99,6 +101,11 @@ class Owned:
     @property
     def found(self) -> Descriptor:
         return read(self.text)
+
+    @property
+    def type(self) -> Optional[str]:
+        """The type of its addresses; None for what gives none."""
+        return FUNCTIONS.get(self.text.partition("(")[0])
 
     def scripts(self, place: int) -> List[Script]:
         """Those of its scripts that the chain has rules for."""

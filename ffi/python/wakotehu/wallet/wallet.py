@@ -93,6 +93,8 @@ class Wallet:
         self.owned: Dict[int, Owned] = {}
         #: The numbers of descriptors by their texts without private keys.
         self._texts: Dict[str, int] = {}
+        #: The numbers of those that give addresses, by the type of these and whether they are for change.
+        self._active: Dict[Tuple[str, bool], int] = {}
         #: Of each script the number of its descriptor, its place there, and which of the place's scripts it is.
         self._scripts: Dict[bytes, Tuple[int, int, int]] = {}
         self._cache: Dict[bytes, Script] = {}
@@ -124,6 +126,7 @@ class Wallet:
         for own in kept.descriptors:
             self.owned[own.number] = own
             self._texts[own.found.text] = own.number
+            self._make_active(own)
             self._learn(own)
         restored(self.ledger, kept)
 
@@ -183,7 +186,7 @@ class Wallet:
             found._begin(host_of(chain, pool))
             found.owned = {number: replace(own) for number, own in self.owned.items()}
             found._scripts.update(self._scripts)
-            found._texts = dict(self._texts)
+            found._texts, found._active = dict(self._texts), dict(self._active)
             found.ledger = self.ledger.copy(found._scripts.__contains__)
             found.labels, found.locked, found.rate = dict(self.labels), dict(self.locked), self.rate
             return found
@@ -317,17 +320,20 @@ class Wallet:
             # Those with the same keys may have no private ones; what waits may pay to them.
             self._cache.clear()
             self._heard, self._changes = set(), -2
-            if is_active:
-                self._make_active(own)
+            self._make_active(own)
             self._unkept["owned"][own.number] = None
             return own
 
     def _make_active(self, own: Owned) -> None:
-        for other in self.owned.values():
-            if other is not own and other.is_active and other.is_internal == own.is_internal:
-                if type_of(other) == type_of(own):
-                    other.is_active = False
-                    self._unkept["owned"][other.number] = None
+        """It gives the addresses of its type from now on, or no more."""
+        kind = own.type or "", own.is_internal
+        before = self._active.get(kind)
+        if own.is_active and before is not None and before != own.number:
+            self.owned[before].is_active = False
+            self._unkept["owned"][before] = None
+        self._active = {it: number for it, number in self._active.items() if number != own.number}
+        if own.is_active:
+            self._active[kind] = own.number
 
     def _learn(self, own: Owned) -> None:
         """Knows the scripts of a descriptor's range."""
@@ -394,14 +400,14 @@ class Wallet:
 
     def active(self, type: str, is_internal: bool) -> Optional[Owned]:
         """The descriptor that gives addresses of a type."""
-        found = (it for it in self.owned.values() if it.is_active and it.is_internal == is_internal)
-        return next((it for it in found if type_of(it) == type), None)
+        number = self._active.get((type, is_internal))
+        return None if number is None else self.owned[number]
 
     def new_script(self, type: str = DEFAULT_TYPE, is_internal: bool = False, is_taken: bool = True) -> bytes:
         """The next script of a type; one that isn't taken is given again."""
         own = self.active(type, is_internal)
         if own is None:
-            if not any(it.is_active for it in self.owned.values()):
+            if not self._active:
                 raise WalletError(WALLET_ERROR, NO_KEYS)
             expect_type(type)
             raise WalletError(KEYPOOL_RAN_OUT, f"Error: No {type} addresses available.")
@@ -608,10 +614,3 @@ class Wallet:
             if record.place is not None or self.ledger.depth(record) != 0 or waits:
                 raise WalletError(INVALID_ADDRESS_OR_KEY, "Transaction not eligible for abandonment")
             self.ledger.abandon(record.id)
-
-
-def type_of(own: Owned) -> str:
-    """The type of the addresses that a descriptor gives; of what has no type, its function."""
-    name = own.text.partition("(")[0]
-    return "legacy" if name == "pkh" else name
-
