@@ -378,7 +378,7 @@ INSIDE = {"addresses.base58", "addresses.data_of", "chainstate.reply_of"} | {
 } | {
     f"wallet.Wallet.{name}" for name in (
         "keep", "used", "scan_state", "height_at", "add", "refill", "owner", "is_solvable", "is_change", "active", "new_script", "set_label",
-        "record", "plan", "fund", "output", "sign", "send", "commit",
+        "record", "plan", "fund", "output", "sign", "send", "commit", "change_script",
     )
 }  # fmt: skip
 #: What calls answer, and who is called: nobody makes them.

@@ -181,6 +181,18 @@ class PaymentsTest(unittest.TestCase):
             self.assertEqual((made.change, made.fee), (-1, 20 * 225))
             self.assertEqual([out.value for out in made.tx.outputs], [20 * COIN - 2250, 30 * COIN - 2250])
 
+    def test_no_keys_for_change(self):
+        bench, pool, wallet = funded()
+        with bench:
+            alone = Wallet(bench, pool, is_blank=True, settings=Settings(keypool=20))
+            alone.add(wallet.owned[1].text, 0, is_active=True)
+            alone.rescan()
+            with self.assertRaises(WalletError) as caught:
+                alone.pay(OTHER, COIN)
+            self.assertIn("needs a change address", str(caught.exception))
+            alone.pay(OTHER, 50 * COIN - 20 * 191)
+            self.assertEqual(alone.balance(), 0)
+
     def test_refusals(self):
         bench, pool, wallet = funded()
         with bench:

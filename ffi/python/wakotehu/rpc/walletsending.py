@@ -221,7 +221,7 @@ def fund_plan(wallet: Wallet, outputs: List[Output], given: Object) -> Tuple[Pla
     elif kind is not None:
         expect_type(kind)
         type: str = kind
-        plan.change = lambda: wallet.new_script(type, is_internal=True, is_taken=False)
+        plan.change = lambda: wallet.change_script(type)
     place = option("changePosition", "change_position")
     plan.place = None if place is None or place == -1 else expect_place(integer(place), len(outputs))
     return plan, bool(option("lockUnspents", "lock_unspents"))

@@ -19,8 +19,11 @@ from .errors import WalletError
 FALLBACK, MOST_FEE = 20_000, 10_000_000
 #: The bytes of the longest signature with its hash type that Bitcoin Core makes.
 SIGNATURE = 71
-#: What is said of coins that aren't enough.
+#: What is said of coins that aren't enough, and where no script is there for change.
 NO_FUNDS = "Insufficient funds"
+NO_CHANGE = "Transaction needs a change address, but we can't generate it. Please call keypoolrefill first."
+#: As long as a script to a key's hash.
+OTHER = bytes(25)
 
 
 class Payment(NamedTuple):
@@ -36,12 +39,13 @@ class Plan:
 
     inputs: these coins are spent in any case; others are added where that isn't enough, and `may_add` is true.
     rate: satoshis for 1,000 bytes.
-    change: makes the script of the change output; `place` is where that stands, the last by default.
+    change: the script of the change output, asked for where there may be one, or None where there is none; `place` is where it
+        stands, the last by default.
     """
 
     payments: Sequence[Payment]
     rate: int
-    change: Callable[[], bytes]
+    change: Callable[[], Optional[bytes]]
     inputs: Sequence[Input] = ()
     may_add: bool = True
     place: Optional[int] = None
@@ -146,11 +150,14 @@ def _finished(plan: Plan, sum_: _Sum, outputs: List[Output]) -> Optional[Funded]
     paid = sum(out.value for out in outputs)
     takers = [at for at, own in enumerate(plan.payments) if own.pays_fee]
     bare = Transaction(plan.version, sum_.inputs, outputs, plan.lock_time)
-    change = Output(0, plan.change())
+    script = plan.change()
+    change = Output(0, OTHER if script is None else script)
     with_change = bare._replace(outputs=[*outputs, change])
     fee = _fee(plan.rate, with_change, sum_.scripts)
     left = sum_.value - paid - (0 if takers else fee)
     if left >= max(1, dust(change)):
+        if script is None:
+            raise WalletError(INSUFFICIENT_FUNDS, NO_CHANGE)
         own = _less(outputs, takers, fee)
         at = len(own) if plan.place is None else plan.place
         own.insert(at, change._replace(value=left))

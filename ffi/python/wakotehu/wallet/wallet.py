@@ -486,7 +486,14 @@ class Wallet:
         if rate is None and not own:
             message = "Fee estimation failed. Fallbackfee is disabled. Wait a few blocks or enable -fallbackfee."
             raise WalletError(INSUFFICIENT_FUNDS, message)
-        return Plan(payments, own, lambda: self.new_script(is_internal=True, is_taken=False))
+        return Plan(payments, own, self.change_script)
+
+    def change_script(self, type: str = DEFAULT_TYPE) -> Optional[bytes]:
+        """The script that change goes to next; None where the wallet has no keys for change."""
+        try:
+            return self.new_script(type, is_internal=True, is_taken=False)
+        except WalletError:
+            return None
 
     def fund(self, plan: Plan) -> Funded:
         """A transaction of a plan that isn't signed, by the wallet's coins that aren't locked."""
