@@ -172,6 +172,26 @@ class PaymentsTest(unittest.TestCase):
             heights = [bench.coin(it.id, it.index).height for it in pool.entry(id).tx.inputs]
             self.assertEqual(heights, [1, 2, 3])
 
+    def test_many_small_coins(self):
+        """Where the oldest are too many for one transaction, the largest are taken; what isn't worth its fee is left."""
+        bench, pool, wallet = funded(2)
+        with bench:
+            script = script_of(wallet.address())
+            wallet.send(wallet.fund(wallet.plan([Payment(Output(3001 + 1000 * (number % 2), script)) for number in range(1500)])).tx)
+            pool.mine()
+            small = [it for it in wallet.unspent() if it.output.value < 5000]
+            self.assertEqual(len(small), 1500)
+            pool.mine(1, wallet.address())
+            pool.mine(100)
+            id = wallet.pay(OTHER, 120 * COIN)
+            self.assertEqual(len(pool.entry(id).tx.inputs), 3)
+            pool.mine()
+            # At 21 satoshis for a byte one of 3,001 isn't worth its 147 bytes.
+            for coin in [it for it in wallet.unspent() if it.output.value > 5000]:
+                wallet.locked[coin.outpoint] = None
+            id = wallet.pay(OTHER, 3000, rate=21_000)
+            self.assertEqual({wallet.output((it.id, it.index)).value for it in pool.entry(id).tx.inputs}, {4001})
+
     def test_what_takes_the_fee(self):
         bench, pool, wallet = funded()
         with bench:

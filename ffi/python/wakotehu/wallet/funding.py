@@ -1,6 +1,7 @@
 """What a wallet pays with. What tests may rely on: the fee is the rate for 1,000 bytes times the largest size that the signed
 transaction may have, rounded up; mined coins are taken before those that wait, the oldest first; there is one change output or none,
-and none that isn't worth its spending, which is added to the fee."""
+and none that isn't worth its spending, which is added to the fee. Coins that aren't worth their fee are left; where
+the oldest are too many for one transaction, the largest come first."""
 
 from dataclasses import dataclass, field
 from typing import Callable, Iterable, List, NamedTuple, Optional, Sequence
@@ -17,8 +18,8 @@ from .errors import WalletError
 #: What is paid for 1,000 bytes where nothing else is said, in satoshis (-fallbackfee), and the most that one transaction pays
 #: (-maxtxfee).
 FALLBACK, MOST_FEE = 20_000, 10_000_000
-#: The bytes of the longest signature with its hash type that Bitcoin Core makes.
-SIGNATURE = 71
+#: The bytes of the longest signature with its hash type that Bitcoin Core makes, and of an input without its script.
+SIGNATURE, INPUT = 71, 41
 #: What is said of coins that aren't enough, and where no script is there for change.
 NO_FUNDS = "Insufficient funds"
 NO_CHANGE = "Transaction needs a change address, but we can't generate it. Please call keypoolrefill first."
@@ -67,7 +68,7 @@ class Funded(NamedTuple):
 class Purse(NamedTuple):
     """What a wallet can pay with: its coins in the order in which they are taken, what an outpoint has, and how a script is spent."""
 
-    coins: Iterable[Coin]
+    coins: Callable[[], Iterable[Coin]]
     output: Callable[[Outpoint], Optional[Output]]
     known: Callable[[bytes], Optional[Script]]
 
@@ -102,20 +103,38 @@ class _Sum:
         self.scripts += size + (2 if size >= 253 else 0)
 
 
+class _TooLarge(WalletError):
+    """So many coins are in no transaction that others relay."""
+
+    def __init__(self) -> None:
+        super().__init__(INSUFFICIENT_FUNDS, "Transaction too large")
+
+
 def fund(plan: Plan, purse: Purse) -> Funded:
     """A transaction of a plan; `WalletError` where the coins aren't enough, or an output is too small."""
+    expect_outputs([own.output for own in plan.payments])
+    try:
+        return _funded(plan, purse, purse.coins())
+    except _TooLarge:
+        # The oldest ones are too many small ones.
+        return _funded(plan, purse, sorted(purse.coins(), key=lambda it: -it.output.value))
+
+
+def _funded(plan: Plan, purse: Purse, coins: Iterable[Coin]) -> Funded:
+    """The same, by coins in their order."""
     outputs, sum_ = [own.output for own in plan.payments], _Sum()
-    expect_outputs(outputs)
     paid = sum(out.value for out in outputs)
     for spends in plan.inputs:
         _take(sum_, spends, purse)
     chosen = {(it.id, it.index) for it in plan.inputs}
-    added = (it for it in purse.coins if it.outpoint not in chosen) if plan.may_add else iter(())
+    added = (it for it in coins if plan.may_add and it.outpoint not in chosen and _may_take(it, plan, purse))
     while True:
         found = _finished(plan, sum_, outputs) if sum_.inputs and sum_.value >= paid else None
         if found is not None:
             return found
-        coin = next((it for it in added if _may_take(it, plan, purse)), None)
+        if INPUT * len(sum_.inputs) + sum_.scripts > MOST_SIZE:
+            raise _TooLarge
+        coin = next(added, None)
         if coin is None:
             raise WalletError(INSUFFICIENT_FUNDS, NO_FUNDS)
         _take(sum_, Input(*coin.outpoint, b"", plan.sequence), purse)
@@ -134,7 +153,9 @@ def expect_outputs(outputs: Sequence[Output]) -> None:
 def _may_take(coin: Coin, plan: Plan, purse: Purse) -> bool:
     if coin.depth < plan.least_depth or not (coin.is_safe or plan.includes_unsafe):
         return False
-    return signed_size(coin.output.script, purse.known(coin.output.script)) is not None
+    size = signed_size(coin.output.script, purse.known(coin.output.script))
+    # One that isn't worth its fee isn't spent.
+    return size is not None and coin.output.value > plan.rate * (INPUT + size) // 1000
 
 
 def _take(sum_: _Sum, spends: Input, purse: Purse) -> None:
@@ -198,7 +219,7 @@ def size_of(tx: Transaction, scripts: int) -> int:
 
 def _expect_size(tx: Transaction, scripts: int, fee: int) -> Transaction:
     if size_of(tx, scripts) > MOST_SIZE:
-        raise WalletError(INSUFFICIENT_FUNDS, "Transaction too large")
+        raise _TooLarge
     if fee > MOST_FEE:
         message = "Fee exceeds maximum configured by user (e.g. -maxtxfee, maxfeerate)"
         raise WalletError(INSUFFICIENT_FUNDS, message)

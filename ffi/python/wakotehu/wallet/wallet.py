@@ -497,11 +497,13 @@ class Wallet:
 
     def fund(self, plan: Plan) -> Funded:
         """A transaction of a plan that isn't signed, by the wallet's coins that aren't locked."""
-        coins = (it for it in self.ledger.available() if it.outpoint not in self.locked)
-        found = fund(plan, Purse(coins, self.output, self._solved))
+        found = fund(plan, Purse(self._free, self.output, self._solved))
         if found.change >= 0:
             self._use(iter([found.tx.outputs[found.change].script]))
         return found
+
+    def _free(self) -> Iterator[Coin]:
+        return (it for it in self.ledger.available() if it.outpoint not in self.locked)
 
     def _solved(self, script: bytes) -> Optional[Script]:
         return self.key_for(script) if self.is_solvable(script) else None
