@@ -14,9 +14,10 @@ import uuid
 import running
 from blocks import Maker, block_id
 from cases import HERE, NOW, ReplicaTest
-from wakotehu import errors, show
+from wakotehu import Bench, Pool, errors, show
 from wakotehu.encoding import GENESIS
 from wakotehu.replicalog import Log
+from wakotehu.wallet import Settings, Wallet
 
 
 class Calls(ReplicaTest):
@@ -67,6 +68,28 @@ class Calls(ReplicaTest):
         self.assertEqual([row[3] for row in rows], [NOW, NOW, None, NOW, None, None, None])
         one.close()
         self.assertEqual(self.audited(), "7 of 7 places have their replies, 0 are no steps\nagrees\n")
+
+    def test_a_wallet(self) -> None:
+        """A wallet at one replica has what another one mines, and follows it where it reorganises."""
+        self.history()
+        one, two = self.replica("one"), self.replica("two")
+        wallet = Wallet(two, seed=bytes(16), settings=Settings(keypool=5))
+        with Bench() as bench:
+            Pool(bench).mine(1, wallet.address())
+            Pool(bench).mine(100)
+            blocks = [bench.block(id) or b"" for id in bench.branch()]
+        for block in blocks:
+            place = one.seat(0).submit(block, NOW + 10**6).at
+        two.seat(0).told(place)
+        self.assertEqual(wallet.balances(), (50 * 10**8, 0, 0))
+        wallet.pay(b"\x51", 10**8)
+        # It has 201 bytes, at 20 satoshis each.
+        self.assertEqual((wallet.balance(), wallet.balance(1)), (49 * 10**8 - 4020, 0))
+        two.seat(0).told(one.seat(0).invalidate(block_id(blocks[0])).at)
+        # Where there is no pool, nobody says that the payment waits no more.
+        self.assertEqual((wallet.balances(), wallet.ledger.height), ((0, 49 * 10**8 - 4020, 0), 0))
+        wallet.abandon(wallet.ledger.in_order()[-1].id)
+        self.assertEqual(wallet.balances(), (0, 0, 0))
 
     def test_bytes_that_are_no_block_have_a_place_and_no_step(self) -> None:
         self.history()

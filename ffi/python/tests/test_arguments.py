@@ -19,7 +19,7 @@ from typing import Any, Dict, Iterator, List, NamedTuple, Tuple
 
 import wakotehu
 from blocks import NOW, Maker, block_id
-from wakotehu import bench, chainstate, consensus, encoding, errors, node, pipe, psbt, psbtsigning, signatures
+from wakotehu import bench, chainstate, consensus, encoding, errors, node, pipe, psbt, psbtsigning, signatures, wallet
 from wakotehu.encoding import GENESIS
 
 ROOT = os.path.realpath(os.path.join(os.path.dirname(__file__), "..", "..", ".."))
@@ -146,6 +146,7 @@ WRONG: Dict[str, List[Any]] = {
     "optional source": [*NOTHING, *NUMBERS, *FRACTIONS, *TEXTS, *LISTS, *OCTETS],
     "secret": [*BYTES, *LENGTHS, bytes(32), b"\xff" * 32],
     "own": [None, *NOTHING, *NUMBERS, *FRACTIONS, *TEXTS, *LISTS, *OCTETS],
+    "optional seed": [*BYTES[1:], b"", bytes(15), bytes(65), bytearray(15)],
     "optional function": [it for it in (*NOTHING, *NUMBERS, *FRACTIONS, *TEXTS, *LISTS, *OCTETS) if not callable(it)],
 }  # fmt: skip
 
@@ -326,7 +327,7 @@ ROWS = [
     row("signatures.Secp256k1"), row("signatures.Secp256k1.valid", triple=("triple", TRIPLE)),
     row("signatures.Secp256k1.public_key", secret=("secret", SECRET), compressed=("flag", True)),
     row("signatures.Secp256k1.sign", secret=("secret", SECRET), digest=ID),
-    row("signatures.Secp256k1.sign_short", secret=("secret", SECRET), digest=ID),
+    *(row(f"signatures.Secp256k1.{name}", secret=("secret", SECRET), digest=ID) for name in ("sign_short", "sign_recoverable")),
     row("signatures.Secp256k1.is_key", key=("bytes", b"")), row("signatures.Secp256k1.tweaked", key=("bytes", b""), tweak=ID),
     row("signatures.Verifier", threads=("threads", 1)),
     row("signatures.Verifier.verdicts", lines=("list of lines", [TRIPLE.line])), row("signatures.processors"),
@@ -356,6 +357,18 @@ ROWS = [
     row("psbtsigning.Signer", psbt=("own", PSBT), means=("optional own", psbtsigning.Means()), kind=("number8", 1), is_dummy=("flag", False)),
     *(row(f"psbtsigning.Signer.{name}", place=("place", 0)) for name in ("sign", "describe")),
     row("library.library"), row("library.secp256k1_library"),
+    Call("wallet.Wallet", {
+        "chain": ("own", POOLED), "pool": ("optional source", None), "seed": ("optional seed", bytes(16)), "path": ("optional path", None),
+        "name": ("text", ""), "is_blank": ("flag", True), "has_private": ("flag", True), "settings": ("own", wallet.Settings(3)),
+    }),
+    row("wallet.Wallet.address", label=("text", ""), type=("text", "legacy")), row("wallet.Wallet.balance", least_depth=("number32", 0)),
+    *(row(f"wallet.Wallet.{name}") for name in ("balances", "unspent", "follow", "close")),
+    row("wallet.Wallet.pay", to=("payee", b"\x51"), satoshis=("step", 1000), rate=("moment", 1000), is_replaceable=("flag", False)),
+    row("wallet.Wallet.bump", id=ID, rate=("moment", 1000), is_replaceable=("flag", False)),
+    *(row(f"wallet.Wallet.{name}", id=ID) for name in ("transaction", "abandon")), row("wallet.Wallet.key_for", script=("bytes", b"")),
+    row("wallet.Wallet.rescan", start=("number32", 0), stop=("moment", 0), is_ending=("optional function", None)),
+    row("wallet.Wallet.copy", chain=("own", POOLED), pool=("optional source", None)),
+    row("wallet.Wallet.backup", path=("path", "/nonexistent/w")),
 ]  # fmt: skip
 
 #: Modules that are no part of this: what takes the arguments, exceptions, what a server has, and what it is started by; what
@@ -379,6 +392,11 @@ INSIDE = {
         "ancestor_of", "fork_of", "spent_by", "moving", "entries", "told", "parted", "request", "checked", "outcome", "outcome_behind",
         "died", "read_answer",
     )
+} | {
+    f"wallet.Wallet.{name}" for name in (
+        "keep", "used", "scan_state", "height_at", "add", "refill", "owner", "is_solvable", "is_change", "active", "new_script", "set_label",
+        "record", "plan", "fund", "output", "sign", "send", "commit", "change_script",
+    )
 }  # fmt: skip
 #: What calls answer, and who is called: nobody makes them.
 ANSWERS = {
@@ -392,7 +410,7 @@ ANSWERS = {
     "encoding.Input", "encoding.Output", "encoding.Transaction", "encoding.Header", "encoding.Block", "encoding.Spelled",
     "chainstate.BlockHeader", "chainstate.Moved", "served.Stamped", "served.UnspentOutput", "served.Entry", "served.Info", "node.Seat",
     "asyncnode.AsyncSeat", "library.Heights",
-    "coinset.Fault", "library.Setting", "library.Fault", "library.Answer", "library.Tip", "library.Coin", "library.CoinCall", "library.Header", "library.SpentSize",
+    "wallet.Settings", "wallet.Bumped", "coinset.Fault", "library.Setting", "library.Fault", "library.Answer", "library.Tip", "library.Coin", "library.CoinCall", "library.Header", "library.SpentSize",
 }  # fmt: skip
 
 
@@ -403,21 +421,22 @@ def public(names: Any) -> List[str]:
 def calls() -> Dict[str, Any]:
     """The public calls of the package's modules: functions, classes, and methods that these have."""
     found = {}
-    for module in pkgutil.iter_modules(wakotehu.__path__):
-        if module.ispkg or module.name in OTHER:
-            continue
-        loaded = importlib.import_module(f"wakotehu.{module.name}")
+    modules = {it.name: f"wakotehu.{it.name}" for it in pkgutil.iter_modules(wakotehu.__path__) if not it.ispkg and it.name not in OTHER}
+    # What the wallet's other modules take was taken by this one before.
+    modules["wallet"] = "wakotehu.wallet.wallet"
+    for module, path in modules.items():
+        loaded = importlib.import_module(path)
         for name in public(vars(loaded)):
             value = getattr(loaded, name)
             if getattr(value, "__module__", None) != loaded.__name__ or not callable(value):
                 continue
-            found[f"{module.name}.{name}"] = value
+            found[f"{module}.{name}"] = value
             if inspect.isclass(value):
                 kept = [base for base in value.__mro__ if base.__module__.startswith("wakotehu")]
                 for own in {own for base in kept for own in public(vars(base))}:
                     method = inspect.getattr_static(value, own)
                     if inspect.isfunction(method) or isinstance(method, classmethod):
-                        found[f"{module.name}.{name}.{own}"] = getattr(value, own)
+                        found[f"{module}.{name}.{own}"] = getattr(value, own)
     return found
 
 
@@ -454,6 +473,7 @@ class WrongTest(unittest.TestCase):
             "signatures.Secp256k1": signatures.Secp256k1, "signatures.Verifier": signatures.Verifier,
             "pool.Pool": lambda: wakotehu.Pool(POOLED), "psbt.Psbt": lambda: psbt.blank(TX), "psbt.Previous": lambda: psbt.previous_of(RAW),
             "psbtsigning.Signer": lambda: psbtsigning.Signer(psbt.blank(TX)),
+            "wallet.Wallet": lambda: wallet.Wallet(POOLED, settings=wallet.Settings(3)),
         }  # fmt: skip
         if name in made:
             found: Any = made[name]()
@@ -483,7 +503,7 @@ class WrongTest(unittest.TestCase):
             if name not in ("close", "library", "secp256k1_library"):
                 try:
                     call(**{argument: value for argument, (_, value) in each.arguments.items()})
-                except errors.Error:
+                except (errors.Error, wallet.WalletError, OSError):
                     pass
                 self.refused(each, call)
 

@@ -749,7 +749,7 @@ class EndTest(FolderCase):
         self.assertEqual((len(written), os.path.exists(os.path.join(self.folder, ".cookie"))), (1, False))
 
     def test_a_server_that_is_closed_before_it_runs(self):
-        opened = Server("127.0.0.1", 0, Gate(), lambda body, is_gone: (200, b""))
+        opened = Server("127.0.0.1", 0, Gate(), lambda body, is_gone, wallet: (200, b""))
         opened.server_close()
         opened.run()
 

@@ -36,6 +36,35 @@ class PluginTest(unittest.TestCase):
         self.assertEqual(code, 0, told)
         self.assertIn(f"{count} passed", told)
 
+    def test_each_test_has_a_wallet_of_its_own(self):
+        self.passes(
+            """
+            @pytest.mark.parametrize("number", range(2))
+            def test_payment(number, wallet, bench, pool, reorg):
+                assert (bench.height(), wallet.balance()) == (102, 50 * 10**8)
+                own = wallet.address("a label")
+                id = wallet.pay(own, 10**8)
+                assert wallet.balance() == 50 * 10**8 - pool.entry(id).fee
+                [block] = pool.mine()
+                assert wallet.balance(1) == 50 * 10**8 - 4500
+                assert reorg(1) == [block] and wallet.balance(1) == 45 * 10**8
+                assert id in pool
+
+            def test_none(bench):
+                assert bench.height() == 101
+
+            @pytest.mark.parametrize("number", range(2))
+            def test_server(number, bitcoind):
+                bitcoind.createwallet("w")
+                bitcoind.generatetoaddress(101, bitcoind.getnewaddress())
+                assert bitcoind.getbalance() == 50
+                if number:
+                    bitcoind.unloadwallet("w")
+                    assert bitcoind.loadwallet("w")["name"] == "w"
+            """,
+            5,
+        )
+
     def test_each_test_has_a_bench_of_its_own(self):
         self.passes(
             """

@@ -321,8 +321,15 @@ class Server:
 
     def set_back(self) -> None:
         """Makes the branch of `begin` the active one: each active block that isn't on it is marked as invalid, from the
-        lowest one on."""
+        lowest one on. All wallets are forgotten."""
         self.call("setmocktime", 0)
+        for name in [it["name"] for it in self.call("listwalletdir")["wallets"]]:
+            # Where there is no folder, one that is unloaded is forgotten by the second call, which is refused.
+            for _ in range(2):
+                try:
+                    self.call("unloadwallet", name)
+                except RpcError:
+                    pass
         if self.call("getblockheader", self._base[-1])["confirmations"] < 1:
             for id in self._base[1:]:
                 self.call("reconsiderblock", id)

@@ -47,6 +47,12 @@ class ExtendedKey(NamedTuple):
         return ExtendedKey(secp.public_key(own), chain, own)
 
 
+def master(secp: Secp256k1, seed: bytes) -> ExtendedKey:
+    """The key of a seed, of 16 to 64 bytes (BIP 32). (One of 2^127 seeds has none: `ValueError`.)"""
+    both = hmac.digest(b"Bitcoin seed", seed, hashlib.sha512)
+    return ExtendedKey(secp.public_key(both[:32]), both[32:], both[:32])
+
+
 def read_extended(secp: Secp256k1, data: bytes) -> Optional[ExtendedKey]:
     """An extended key of regtest, from its 78 bytes; None where these are none."""
     if len(data) != SIZE or data[:4] not in (PUBLIC, PRIVATE):

@@ -107,6 +107,8 @@ class Waiting:
         self._line: List[Entry] = []
         #: What miners are asked to add to fees, by the ids of transactions, in satoshis.
         self.deltas: Dict[bytes, int] = {}
+        #: Counts what came and went.
+        self.changes = 0
 
     def copy(self) -> "Waiting":
         """Another of the same, which stays as it is."""
@@ -119,6 +121,7 @@ class Waiting:
         """Puts one behind all others."""
         self._line = self.with_ancestors(entry)
         self._last += 1
+        self.changes += 1
         self.entries[entry.id], self._places[entry.id] = entry, self._last
         self.spenders.update(((it.id, it.index), entry.id) for it in entry.tx.inputs)
         self.bytes += entry.size
@@ -126,6 +129,7 @@ class Waiting:
     def drop(self, id: bytes) -> None:
         """One goes by itself."""
         entry, self._line = self.entries.pop(id), []
+        self.changes += 1
         del self._places[id]
         self.bytes -= entry.size
         for spends in entry.tx.inputs:
@@ -426,6 +430,7 @@ class Mempool(Waiting):
         self.spenders, self.bytes, self._line = fresh.spenders, fresh.bytes, []
         self._places, self._last = fresh._places, fresh._last
         self._returning, self.is_stale = {}, False
+        self.changes += 1
         for id in before:
             if id not in self.entries:
                 self.told(b"R", id)

@@ -1,8 +1,9 @@
 """Which transaction may take the place of others that wait and spend the same coins (BIP 125, as Bitcoin Core has it)."""
 
-from typing import TYPE_CHECKING, List, Sequence
+from typing import TYPE_CHECKING, List, Protocol, Sequence
 
 from .chainstate import show
+from .encoding import Transaction
 from .errors import NotAccepted
 
 if TYPE_CHECKING:
@@ -16,7 +17,14 @@ INCREMENT = 1000
 MOST = 100
 
 
-def signals(entry: "Entry") -> bool:
+class Spends(Protocol):
+    """What has a transaction."""
+
+    @property
+    def tx(self) -> Transaction: ...
+
+
+def signals(entry: Spends) -> bool:
     """Whether a transaction says by itself that it may be replaced."""
     return any(spends.sequence <= REPLACEABLE for spends in entry.tx.inputs)
 

@@ -20,8 +20,8 @@ from .errors import Error
 from .nodebench import SEATS, NodeBench
 from .replicabench import ReplicaBench
 from .rpc import (
-    addresses, blockchain, chain, control, descriptors, filters, keys, making, mining, notices, policy, proofs, psbts, saved,
-    sending, settings, signing, stats, template, txs, waiting,
+    addresses, blockchain, chain, control, descriptors, filters, making, mining, notices, policy, proofs, psbts, saved, sending,
+    settings, signing, stats, template, txs, waiting, walletcoins, walletkeys, wallets, walletsending,
 )  # fmt: skip
 from .rpc.auth import COOKIE_USER, Gate, remove_cookie, write_cookie
 from .rpc.datadir import BadFolder, Folder, Opening
@@ -29,14 +29,18 @@ from .rpc.http import LOOPBACK, Server
 from .rpc.jsonrpc import answer
 from .rpc.node import Node, run
 from .rpc.page import PATH, Page
+from .rpc.values import MAX_MONEY, satoshis
 from .signatures import Verifier
 from .stopping import Signals
+from .wallet import Settings
+from .wallet.funding import FALLBACK
+from .wallet.keys import KEYPOOL
 from .version import __version__
 
 #: The modules that put calls into the table.
 MODULES = (
-    addresses, blockchain, chain, control, descriptors, filters, keys, making, mining, notices, proofs, psbts, saved, sending,
-    signing, stats, template, txs, waiting,
+    addresses, blockchain, chain, control, descriptors, filters, making, mining, notices, proofs, psbts, saved, sending, signing,
+    stats, template, txs, waiting, walletcoins, walletkeys, wallets, walletsending,
 )  # fmt: skip
 #: The file of -datadir that has what waits to be mined.
 MEMPOOL = "mempool.dat"
@@ -57,8 +61,8 @@ def serve(
     """Serves until `stop` is called, or is_ending answers True. Port 0 is any that is free; `ready` is called with it once it is
     bound."""
 
-    def answered(body: bytes, is_gone: Callable[[], bool]) -> Tuple[int, bytes]:
-        node.called_by(is_gone)
+    def answered(body: bytes, is_gone: Callable[[], bool], wallet: Optional[str]) -> Tuple[int, bytes]:
+        node.called_by(is_gone, wallet)
         return answer(lambda method, params: run(node, method, params), body)
 
     servers: List[Server] = []
@@ -139,7 +143,7 @@ def _parser() -> _Parser:
         epilog="A password is never a word of this command, where ps shows it: rpcuser, rpcpassword and rpcauth stand in"
         " the file of -conf, or in WAKOTEHU_RPCUSER, WAKOTEHU_RPCPASSWORD and WAKOTEHU_RPCAUTH. Without them there is a"
         " cookie, in the file that is printed. Flags of bitcoind that mean the same here or nothing are taken too"
-        " (-regtest=1, -server, -listen=0, -fallbackfee=.., -rpcallowip=127.0.0.1); those that would promise something"
+        " (-regtest=1, -server, -listen=0, -rpcallowip=127.0.0.1); those that would promise something"
         " are refused.",
     )
     add = parser.add_argument
@@ -172,6 +176,9 @@ def _parser() -> _Parser:
     add("--blockfilterindex", nargs="?", const="1", default="0", help="getblockfilter has the basic filters of blocks (BIP 158)")
     add("--page", action="store_true", help="shows the block tree, blocks, transactions and coins in a browser, at /page of the same"
         " port, with the same password")  # fmt: skip
+    add("--wallet", action="append", default=[], metavar="NAME", help="loads a wallet at the start; given again for more")
+    add("--fallbackfee", metavar="AMOUNT", help="what wallets pay for 1,000 bytes where nothing else is said: 0.0002 by default")
+    add("--keypool", metavar="N", help="how many keys wallets know beyond the last used one: 1000 by default")
     add("--blocknotify", metavar="COMMAND", help="is run when another block is the active one, with its hash for %%s")
     add("--version", action="version", version=__version__)
     for name in settings.RULES:
@@ -201,6 +208,11 @@ def _given(words: Sequence[str]) -> argparse.Namespace:
         heights[FORKS[fork]] = _number(parser, number, "-testactivationheight", 2**32 - 1)
     given.heights = tuple(heights) if given.testactivationheight else None
     given.maxmempool = _number(parser, "300" if given.maxmempool is None else given.maxmempool, "-maxmempool", 100_000)
+    given.keypool = _number(parser, str(KEYPOOL) if given.keypool is None else given.keypool, "-keypool", 1_000_000)
+    fallback = FALLBACK if given.fallbackfee is None else satoshis(given.fallbackfee)
+    if fallback is None or not 0 <= fallback <= MAX_MONEY:
+        parser.error(f"-fallbackfee={given.fallbackfee} is no amount")
+    given.fallbackfee = fallback
     for name in ("txindex", "mempoolfullrbf", "persistmempool", "acceptnonstdtxn"):
         setattr(given, name, settings.is_on(getattr(given, name)))
     try:
@@ -364,9 +376,13 @@ def _run(given: argparse.Namespace, folder: Optional[Folder], cookies: List[Tupl
             with node.turn:
                 if not saved.load(node, node.saves_to, lambda: signals.came):
                     return
+        own = Settings(given.keypool, given.fallbackfee)
+        node.wallets = wallets.Wallets(node, os.path.join(given.datadir, wallets.FOLDER) if folder else None, own)
+        node.wallets.start(given.wallet)
         node.publisher = publisher
         node.filters = filters.FilterIndex() if given.blockfilterindex else None
         serve(node, gate, hosts, given.rpcport, ready, Page(node) if given.page else None, lambda: signals.came)
+        node.wallets.close()
         if node.saves_to is not None and not node.broken:
             with node.turn:
                 saved.save(node, node.saves_to)

@@ -92,6 +92,16 @@ class Secp256k1:
             found = self._signature(secret, digest, tries.to_bytes(32, "little"))
         return found
 
+    def sign_recoverable(self, secret: bytes, digest: bytes) -> bytes:
+        """A signature from which its key can be computed, as Bitcoin Core's `SignCompact` makes it: which of four keys it is, and 64
+        bytes."""
+        secret, digest = octets_of(secret, 32, "secret"), id_of(digest, "digest")
+        signature, out, which = ctypes.create_string_buffer(65), ctypes.create_string_buffer(64), ctypes.c_int()
+        if not self._library.secp256k1_ecdsa_sign_recoverable(self._context, signature, digest, secret, None, None):
+            raise ValueError("secret must be a number from 1 to the curve's order less 1")
+        self._library.secp256k1_ecdsa_recoverable_signature_serialize_compact(self._context, out, ctypes.byref(which), signature)
+        return bytes([which.value]) + out.raw
+
     def _signature(self, secret: bytes, digest: bytes, entropy: Optional[bytes]) -> bytes:
         """A signature; other entropy of 32 bytes makes another."""
         signature, out = ctypes.create_string_buffer(64), ctypes.create_string_buffer(72)

@@ -6,7 +6,7 @@
         reorg(1)
         assert bench.coin(id, index) is None
 
-Fixtures: `bench` is a `Bench` of 101 blocks, `pool` a `Pool` over it, `node` a `Node` of them, and `bitcoind` a server that
+Fixtures: `bench` is a `Bench` of 101 blocks, `pool` a `Pool` over it, `wallet` a `Wallet` with coins (one block more), `node` a `Node` of them, and `bitcoind` a server that
 answers bitcoind's calls, one for all tests, which is set back behind each. `mine`, `fund` and `reorg` are the helpers of `wakotehu.benches.Miner` on the
 one that the test asks for, the first of several, or else on `bench`. `--wakotehu-table` shows the block tree of a test
 that fails.
@@ -16,15 +16,19 @@ from typing import Any, Callable, Dict, Generator, Iterator, List, Tuple
 
 import pytest
 
+from .addresses import script_of
 from .bench import Bench
 from .benches import BASE, BenchMiner, Miner, NodeMiner, Server, ServerMiner
-from .encoding import Spelled, block_at_front
+from .encoding import Input, Output, Spelled, Transaction, block_at_front
 from .node import Node
 from .pool import Pool
 from .signatures import secp256k1
+from .wallet import Settings, Wallet
 
 #: The fixtures that are chains.
 CHAINS = ("bench", "node", "bitcoind")
+#: So many coins a test's wallet has, and so many keys it knows beyond the last used one.
+COINS, KEYS = 10, 100
 
 
 def pytest_addoption(parser: pytest.Parser) -> None:
@@ -47,6 +51,20 @@ def _wakotehu_blocks(_wakotehu_base: Bench) -> List[Spelled]:
     return [block_at_front(miner.block(id)) for id in _wakotehu_base.branch()]
 
 
+@pytest.fixture(scope="session")
+def _wakotehu_funded(_wakotehu_base: Bench) -> Iterator[Tuple[Bench, Wallet]]:
+    """The chain of a test that has a wallet, and this wallet."""
+    with _wakotehu_base.copy() as found:
+        wallet = Wallet(found, seed=bytes(16), settings=Settings(keypool=KEYS))
+        made = block_at_front(found.block(found.branch()[0]) or b"").transaction(0)
+        value = made.outputs[0].value // COINS
+        scripts = [script_of(wallet.address()) or b"" for _ in range(COINS)]
+        paying = Transaction(2, [Input(made.id, 0, b"", 0xFFFFFFFF)], [Output(value, script) for script in scripts], 0)
+        BenchMiner(found).mine(1, transactions=[paying])
+        wallet.follow()
+        yield found, wallet
+
+
 _Miners = Dict[str, Miner]
 
 
@@ -59,9 +77,13 @@ def _wakotehu_miners(request: pytest.FixtureRequest) -> _Miners:
 
 
 @pytest.fixture
-def bench(_wakotehu_base: Bench, _wakotehu_miners: _Miners) -> Iterator[Bench]:
-    """A `Bench` of 101 blocks, whose coins anyone spends."""
-    with _wakotehu_base.copy() as found:
+def bench(request: pytest.FixtureRequest, _wakotehu_miners: _Miners) -> Iterator[Bench]:
+    """A `Bench` of 101 blocks, whose coins anyone spends; beside a `wallet` of 102."""
+    if "wallet" in request.fixturenames:
+        base: Bench = request.getfixturevalue("_wakotehu_funded")[0]
+    else:
+        base = request.getfixturevalue("_wakotehu_base")
+    with base.copy() as found:
         _wakotehu_miners["bench"] = BenchMiner(found)
         yield found
 
@@ -70,6 +92,12 @@ def bench(_wakotehu_base: Bench, _wakotehu_miners: _Miners) -> Iterator[Bench]:
 def pool(bench: Bench) -> Pool:
     """What waits to be mined on `bench`."""
     return Pool(bench)
+
+
+@pytest.fixture
+def wallet(_wakotehu_funded: Tuple[Bench, Wallet], bench: Bench, pool: Pool) -> Wallet:
+    """A wallet on `bench` that sends to `pool`: ten coins of 5 bitcoin each."""
+    return _wakotehu_funded[1].copy(bench, pool)
 
 
 @pytest.fixture

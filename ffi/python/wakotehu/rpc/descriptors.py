@@ -37,33 +37,36 @@ class Underivable(Exception):
     """A key can't be derived without a private one."""
 
 
-class Script(NamedTuple):
-    """A script, and a descriptor of it that names its keys."""
-
-    code: bytes
-    text: str
-
-    @property
-    def hashed(self) -> "Script":
-        """The script to its hash (BIP 16)."""
-        return Script(b"\xa9\x14" + hash160(self.code) + b"\x87", f"sh({self.text})")
-
-    @property
-    def witness(self) -> "Script":
-        """The witness program of its hash (BIP 141)."""
-        return Script(b"\0\x20" + sha256(self.code).digest(), f"wsh({self.text})")
-
-
-class _Derived(NamedTuple):
-    """A key, and where it comes from: the fingerprint of another one and a path."""
+class Derived(NamedTuple):
+    """A key, and where it comes from: the fingerprint of another one and a path; with its secret where that is known."""
 
     key: bytes
     fingerprint: str
     path: str
+    secret: Optional[bytes] = None
 
     @property
     def text(self) -> str:
         return f"[{self.fingerprint}{self.path}]{self.key.hex()}"
+
+
+class Script(NamedTuple):
+    """A script, and a descriptor of it that names its keys; these keys, and the script whose hash it pays to."""
+
+    code: bytes
+    text: str
+    keys: Tuple[Derived, ...] = ()
+    inner: Optional[bytes] = None
+
+    @property
+    def hashed(self) -> "Script":
+        """The script to its hash (BIP 16)."""
+        return Script(b"\xa9\x14" + hash160(self.code) + b"\x87", f"sh({self.text})", self.keys, self.code)
+
+    @property
+    def witness(self) -> "Script":
+        """The witness program of its hash (BIP 141)."""
+        return Script(b"\0\x20" + sha256(self.code).digest(), f"wsh({self.text})", self.keys, self.code)
 
 
 class _Key(NamedTuple):
@@ -72,9 +75,11 @@ class _Key(NamedTuple):
     text: str
     size: int
     #: The key at a place of its range.
-    at: Callable[[int], _Derived]
+    at: Callable[[int], Derived]
     is_range: bool = False
     has_private: bool = False
+    #: The same with its private keys.
+    private: str = ""
 
 
 class Descriptor(NamedTuple):
@@ -86,17 +91,19 @@ class Descriptor(NamedTuple):
     is_range: bool = False
     is_solvable: bool = True
     has_private: bool = False
+    #: The same with its private keys.
+    private: str = ""
 
 
 @lru_cache(maxsize=None)
-def _secp() -> Secp256k1:
+def curve() -> Secp256k1:
     """The curve, for all threads."""
     return Secp256k1()
 
 
 def read_descriptor(text: str) -> Descriptor:
     """The descriptor of a text without its checksum."""
-    found, rest = _script(_secp(), text, "")
+    found, rest = _script(curve(), text, "")
     if rest:
         raise _fault("")
     return found
@@ -261,16 +268,17 @@ def _script(secp: Secp256k1, text: str, within: str) -> Tuple[Descriptor, str]:
 def _of_key(name: str, key: _Key) -> Descriptor:
     """A function of one key."""
     return Descriptor(
-        f"{name}({key.text})", lambda place: _key_scripts(name, key.at(place)), key.is_range, has_private=key.has_private
-    )
+        f"{name}({key.text})", lambda place: _key_scripts(name, key.at(place)), key.is_range, has_private=key.has_private,
+        private=f"{name}({key.private})",
+    )  # fmt: skip
 
 
-def _key_scripts(name: str, own: _Derived) -> List[Script]:
+def _key_scripts(name: str, own: Derived) -> List[Script]:
     digest, text = hash160(own.key), own.text
     found = {
-        "pk": Script(push(own.key) + b"\xac", f"pk({text})"),
-        "pkh": Script(b"\x76\xa9\x14" + digest + b"\x88\xac", f"pkh({text})"),
-        "wpkh": Script(b"\0\x14" + digest, f"wpkh({text})"),
+        "pk": Script(push(own.key) + b"\xac", f"pk({text})", (own,)),
+        "pkh": Script(b"\x76\xa9\x14" + digest + b"\x88\xac", f"pkh({text})", (own,)),
+        "wpkh": Script(b"\0\x14" + digest, f"wpkh({text})", (own,)),
     }
     if name != "combo":
         return [found[name]]
@@ -284,7 +292,7 @@ def _of_hash(name: str, inner: Descriptor) -> Descriptor:
     def at(place: int) -> List[Script]:
         return [script.hashed if name == "sh" else script.witness for script in inner.at(place)]
 
-    return inner._replace(text=f"{name}({inner.text})", at=at)
+    return inner._replace(text=f"{name}({inner.text})", at=at, private=f"{name}({inner.private})")
 
 
 def _refused(own: str, name: str, within: str) -> str:
@@ -305,7 +313,7 @@ def _fixed(name: str, inner: str) -> Descriptor:
         raise _fault("Raw script is not hex")
     text = f"{name}({inner.lower() if name == 'raw' else inner})"
     script = Script(code, f"{name}({inner})")
-    return Descriptor(text, lambda place: [script], is_solvable=False)
+    return Descriptor(text, lambda place: [script], is_solvable=False, private=text)
 
 
 def _number(word: str) -> Optional[int]:
@@ -338,18 +346,19 @@ def _of_multi(name: str, needed: int, keys: List[_Key]) -> Descriptor:
 
     def at(place: int) -> List[Script]:
         own = [key.at(place) for key in keys]
-        return [_of_keys(needed, sorted(own) if name == "sortedmulti" else own)]
+        return [_of_keys(needed, sorted(own, key=lambda it: it.key) if name == "sortedmulti" else own)]
 
     return Descriptor(
         f"{name}({','.join([str(needed), *(key.text for key in keys)])})", at,
         is_range=any(key.is_range for key in keys), has_private=any(key.has_private for key in keys),
+        private=f"{name}({','.join([str(needed), *(key.private for key in keys)])})",
     )  # fmt: skip
 
 
-def _of_keys(needed: int, keys: List[_Derived]) -> Script:
+def _of_keys(needed: int, keys: List[Derived]) -> Script:
     """The script that asks for so many signatures of keys."""
     code = b"".join([bytes([0x50 + needed]), *(push(own.key) for own in keys), bytes([0x50 + len(keys)]), b"\xae"])
-    return Script(code, f"multi({','.join([str(needed), *(own.text for own in keys)])})")
+    return Script(code, f"multi({','.join([str(needed), *(own.text for own in keys)])})", tuple(keys))
 
 
 def _expect_few(needed: int, keys: List[_Key], within: str) -> None:
@@ -390,11 +399,11 @@ def _key(secp: Secp256k1, text: str, uncompressed: bool) -> _Key:
     fingerprint, path = fingerprint.lower(), _shown(_path(steps))
     found = _bare_key(secp, parts[1], uncompressed)
 
-    def at(place: int) -> _Derived:
+    def at(place: int) -> Derived:
         own = found.at(place)
-        return _Derived(own.key, fingerprint, path + own.path)
+        return own._replace(fingerprint=fingerprint, path=path + own.path)
 
-    return found._replace(text=f"[{fingerprint}{path}]{found.text}", at=at)
+    return found._replace(text=f"[{fingerprint}{path}]{found.text}", at=at, private=f"[{fingerprint}{path}]{found.private}")
 
 
 def _path(steps: List[str]) -> List[int]:
@@ -420,12 +429,12 @@ def _bare_key(secp: Secp256k1, text: str, uncompressed: bool) -> _Key:
     word, *steps = text.split("/")
     if not word:
         raise _fault("No key provided")
-    key, is_private = (None, False) if steps else _plain_key(secp, word)
+    key, secret = (None, None) if steps else _plain_key(secp, word)
     if key is not None:
         if len(key) != 33 and not uncompressed:
             raise _fault("Uncompressed keys are not allowed")
-        own = _Derived(key, hash160(key)[:4].hex(), "")
-        return _Key(key.hex(), len(key), lambda place: own, has_private=is_private)
+        own, private = Derived(key, hash160(key)[:4].hex(), "", secret), key.hex() if secret is None else word
+        return _Key(key.hex(), len(key), lambda place: own, has_private=secret is not None, private=private)
     data = base58_data(word, MAX_EXTENDED) or b""
     root = read_extended(secp, data)
     if root is None:
@@ -433,8 +442,9 @@ def _bare_key(secp: Secp256k1, text: str, uncompressed: bool) -> _Key:
     last = steps.pop() if steps and steps[-1] in ("*", "*'", "*h") else ""
     branch = _Branch(secp, root, _path(steps), last)
     end = "" if not last else "/*" + "'" * (last != "*")
-    text = base58(PUBLIC + data[4:45] + root.key) + _shown(branch.path) + end
-    return _Key(text, 33, branch.at, is_range=bool(last), has_private=root.secret is not None)
+    path = _shown(branch.path) + end
+    text = base58(PUBLIC + data[4:45] + root.key) + path
+    return _Key(text, 33, branch.at, is_range=bool(last), has_private=root.secret is not None, private=word + path)
 
 
 class _Branch:
@@ -448,13 +458,13 @@ class _Branch:
         #: The key of the path, once it was asked for.
         self._parent: Optional[ExtendedKey] = None
 
-    def at(self, place: int) -> _Derived:
+    def at(self, place: int) -> Derived:
         """The key at a place."""
         if self._parent is None:
             self._parent = self._reached(self._root, self.path)
         more = [place + HARDENED * (self._last != "*")] if self._last else []
         own = self._reached(self._parent, more)
-        return _Derived(own.key, self._root.fingerprint.hex(), _shown(self.path + more))
+        return Derived(own.key, self._root.fingerprint.hex(), _shown(self.path + more), own.secret)
 
     def _reached(self, key: ExtendedKey, path: List[int]) -> ExtendedKey:
         for number in path:
@@ -465,12 +475,12 @@ class _Branch:
         return key
 
 
-def _plain_key(secp: Secp256k1, word: str) -> Tuple[Optional[bytes], bool]:
-    """A public key, and whether it was given by its private one; None for what is neither."""
+def _plain_key(secp: Secp256k1, word: str) -> Tuple[Optional[bytes], Optional[bytes]]:
+    """A public key, with its secret where it was given by that; None for what is neither."""
     if len(word) % 2 == 0 and re.fullmatch("[0-9a-fA-F]+", word):
         key = bytes.fromhex(word)
         if not secp.is_key(key):
             raise _fault(f"Pubkey '{word[:200]}' is invalid")
-        return key, False
+        return key, None
     secret = read_secret(word)
-    return (None, False) if secret is None else (secp.public_key(*secret), True)
+    return (None, None) if secret is None else (secp.public_key(*secret), secret[0])

@@ -7,6 +7,7 @@ import socket
 import socketserver
 import threading
 import time
+import urllib.parse
 from collections import OrderedDict
 from http import HTTPStatus
 from http.server import BaseHTTPRequestHandler
@@ -28,6 +29,8 @@ WRONG_PASSWORD_WAIT = 0.25
 LOOPBACK = ("127.0.0.1", "localhost", "::1")
 #: The path of the page of -page, and of what it asks for, where a slash ends a path.
 PAGE = "/page/"
+#: What is before the name of a wallet in a path.
+WALLET = "/wallet/"
 #: The methods that bitcoind knows; it answers all but POST by 405, and others by 501.
 METHODS = ("GET", "POST", "HEAD", "PUT", "DELETE")
 _FIRST = re.compile(rb"([!-~]+) ([!-~\x80-\xff]+) HTTP/1\.[0-9]\r?\n")
@@ -35,8 +38,8 @@ _FIRST = re.compile(rb"([!-~]+) ([!-~\x80-\xff]+) HTTP/1\.[0-9]\r?\n")
 _FIELD = re.compile(rb"(?:[!-9;-~]+:|[ \t])[^\r\n]*\r?\n")
 _HOST = re.compile(r"(?:\[([0-9a-f:.]+)\]|([a-z0-9.-]+))(?::[0-9]{0,5})?")
 
-#: Answers a request's body by an HTTP status and a body; asks whether the client is gone.
-Answers = Callable[[bytes, Callable[[], bool]], Tuple[int, bytes]]
+#: Answers a request's body by an HTTP status and a body; asks whether the client is gone. The wallet is one that the path names.
+Answers = Callable[[bytes, Callable[[], bool], Optional[str]], Tuple[int, bytes]]
 #: Answers a GET's path by a status, a body, its type and headers, where that path is the page's.
 Pages = Callable[[str, Callable[[], bool]], Tuple[int, bytes, str, Sequence[str]]]
 
@@ -146,7 +149,7 @@ class Handler(BaseHTTPRequestHandler):
             return
         self.server.takes(self.connection)
         if self.command == "POST":
-            status, reply = self.server.answer(body, self._is_gone)
+            status, reply = self.server.answer(body, self._is_gone, self._wallet())
             self._answer(status, reply, last=self.server.stopping())
         elif self.server.page is not None:
             status, reply, kind, more = self.server.page(self.path, self._is_gone)
@@ -160,7 +163,7 @@ class Handler(BaseHTTPRequestHandler):
         if self.command == "DELETE":
             return 405, b""
         is_page = self.server.page is not None and (self.path + "/").startswith(PAGE)
-        if self.path != "/" and not self.path.startswith("/wallet/") and not is_page:
+        if self.path != "/" and not self.path.startswith(WALLET) and not is_page:
             return 404, b""
         if is_page and self.headers.get("Sec-Fetch-Site", "none") not in ("none", "same-origin"):
             return 403, b""
@@ -171,6 +174,12 @@ class Handler(BaseHTTPRequestHandler):
                 time.sleep(WRONG_PASSWORD_WAIT)
             return 401, b""
         return None
+
+    def _wallet(self) -> Optional[str]:
+        """The wallet that the path names."""
+        if not self.path.startswith(WALLET):
+            return None
+        return urllib.parse.unquote_to_bytes(self.path[len(WALLET) :].encode("latin-1")).decode(errors="replace")
 
     def _length(self) -> Optional[int]:
         """The length of the body; None where the head doesn't say it once and in digits."""

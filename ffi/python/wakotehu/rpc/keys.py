@@ -1,4 +1,5 @@
-"""getnewaddress and dumpprivkey: keys of this run. There is no wallet: nothing is signed by them but with their private keys."""
+"""What getnewaddress and dumpprivkey answer where no wallet is loaded: keys of this run. Nothing is signed by them but with their
+private keys."""
 
 import os
 from typing import Any
@@ -9,19 +10,17 @@ from ..signatures import Secp256k1
 from .errors import (
     INVALID_ADDRESS_OR_KEY, INVALID_LABEL_NAME, KEYPOOL_RAN_OUT, TYPE_ERROR, WALLET_ERROR, RpcError,
 )  # fmt: skip
-from .node import Node, call
+from .node import Node
 from .scripts import KEY_PREFIX, address_script, is_script_hash
 from .signing import SECRET_PREFIX
 from .values import shortened, text
 
-GROUP = "Wallet"
 #: The types of addresses of Bitcoin Core, of which the first is given.
-_TYPES = ("legacy", "p2sh-segwit", "bech32")
+_TYPES = ("legacy", "p2sh-segwit", "bech32", "bech32m")
 
 
-@call(GROUP, "label", "address_type")
-def getnewaddress(node: Node, label: Any, address_type: Any) -> str:
-    """An address of a new key, of type legacy. There is no wallet: dumpprivkey gives the key, as long as the server runs."""
+def new_address(node: Node, label: Any, address_type: Any) -> str:
+    """An address of a new key, of type legacy."""
     if label is not None and text(label) == "*":
         raise RpcError(INVALID_LABEL_NAME, "Invalid label name")
     kind = _TYPES[0] if address_type is None else text(address_type)
@@ -36,9 +35,8 @@ def getnewaddress(node: Node, label: Any, address_type: Any) -> str:
     return spelled(KEY_PREFIX, digest)
 
 
-@call(GROUP, "address", needed=1)
-def dumpprivkey(node: Node, address: Any) -> str:
-    """The private key of an address that getnewaddress gave since the server began."""
+def private_key(node: Node, address: Any) -> str:
+    """The private key of an address that `new_address` gave since the server began."""
     with node.others():
         script = address_script(text(address))
     if script is None:

@@ -49,6 +49,8 @@ class Node:
         self.filters: Optional["FilterIndex"] = None
         #: What tells of blocks.
         self.publisher: Optional["Publisher"] = None
+        #: The wallets, once one is asked for: `rpc.wallets.Wallets`.
+        self.wallets: Any = None
         #: The private keys of the addresses that were given, by the hashes of their keys.
         self.keys: Dict[bytes, bytes] = {}
         #: What `setnetworkactive` said last.
@@ -89,9 +91,15 @@ class Node:
         if self.stopped:
             raise RpcError(MISC_ERROR, self.broken or "The server is stopping")
 
-    def called_by(self, is_gone: Callable[[], bool]) -> None:
-        """From now on this thread calls for a client that may be gone."""
-        self._caller.is_gone = is_gone
+    def called_by(self, is_gone: Callable[[], bool], wallet: Optional[str] = None) -> None:
+        """From now on this thread calls for a client that may be gone, at a wallet where it names one."""
+        self._caller.is_gone, self._caller.wallet = is_gone, wallet
+
+    @property
+    def wallet_name(self) -> Optional[str]:
+        """The wallet that this thread's client names by its path."""
+        name: Optional[str] = getattr(self._caller, "wallet", None)
+        return name
 
     def expect_client(self) -> None:
         """Ends the call where its client is gone."""

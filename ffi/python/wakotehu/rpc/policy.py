@@ -33,7 +33,7 @@ def expect_standard(tx: Transaction, size: int) -> None:
     for out in tx.outputs:
         if not _is_standard(out.script):
             raise NotAccepted("scriptpubkey")
-        if out.value < _dust(out):
+        if out.value < dust(out):
             raise NotAccepted("dust")
     if sum(kind_of(out.script)[0] == "nulldata" for out in tx.outputs) > 1:
         raise NotAccepted("multi-op-return")
@@ -65,7 +65,7 @@ def _is_standard(script: bytes) -> bool:
     return kind != "nonstandard" and (kind != "nulldata" or len(script) <= MOST_DATA)
 
 
-def _dust(out: Output) -> int:
+def dust(out: Output) -> int:
     """What an output has at least, so that it may be worth spending (`GetDustThreshold`)."""
     if consensus.script(out.script).unspendable:
         return 0

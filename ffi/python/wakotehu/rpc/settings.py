@@ -13,10 +13,10 @@ TOPICS = ("hashblock", "hashtx", "rawblock", "rawtx", "sequence")
 #: What the file may set that the server has flags for. Those of the second are read in its section [regtest] alone.
 READ = (
     "rpcuser", "rpcpassword", "rpcauth", "rpccookiefile", "testactivationheight", "blocknotify", "maxmempool", "txindex",
-    "blockfilterindex", "mempoolfullrbf", "persistmempool", "acceptnonstdtxn",
+    "blockfilterindex", "mempoolfullrbf", "persistmempool", "acceptnonstdtxn", "fallbackfee", "keypool",
     *(f"zmqpub{topic}{end}" for topic in TOPICS for end in ("", "hwm")),
 )  # fmt: skip
-READ_IN_SECTION = ("rpcport", "rpcbind")
+READ_IN_SECTION = ("rpcport", "rpcbind", "wallet")
 #: Those that are on or off.
 SWITCHES = ("txindex", "blockfilterindex", "mempoolfullrbf", "persistmempool", "acceptnonstdtxn")
 
@@ -57,10 +57,6 @@ def _is_number(value: str) -> bool:
     return re.fullmatch("[0-9]{1,9}", value) is not None
 
 
-def _is_amount(value: str) -> bool:
-    return re.fullmatch("[0-9]{1,9}([.][0-9]{1,8})?", value) is not None
-
-
 def _is_any(value: str) -> bool:
     return True
 
@@ -84,11 +80,10 @@ RULES: Dict[str, Rule] = {
     "rest": (_is_off, "there is no /rest/"), "prune": (_is_off, "nothing is pruned"),
     "rpcallowip": (_is_loopback, "the server answers this machine alone"),
     **dict.fromkeys(("rpcthreads", "rpcworkqueue", "rpcservertimeout", "dbcache"), (_is_number, "it is a number")),
-    "fallbackfee": (_is_amount, "it is an amount"),
     **dict.fromkeys(
         (
             "printtoconsole debug debugexclude loglevel logips logtimestamps logtimemicros logthreadnames"
-            " logsourcelocations shrinkdebugfile disablewallet keypool addresstype changetype minrelaytxfee"
+            " logsourcelocations shrinkdebugfile disablewallet addresstype changetype minrelaytxfee"
             " maxconnections"
             " peertimeout blocksonly uacomment par checkblockindex checkmempool checkblocks checklevel rpcdoc"
         ).split(),

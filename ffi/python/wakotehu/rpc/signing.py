@@ -22,21 +22,32 @@ _FALSE = "Script evaluated without error but finished with a false/empty top sta
 _SIGNED = ("pubkey", "pubkeyhash", "multisig", "scripthash")
 
 
-class _Keys:
+class Keys:
     """Private keys by the public ones, and public ones by their hashes."""
 
-    def __init__(self, secp: Secp256k1, given: List[Any]) -> None:
+    def __init__(self) -> None:
         self.secrets: Dict[bytes, bytes] = {}
         self.keys: Dict[bytes, bytes] = {}
-        for word in given:
-            secret = read_secret(text(word))
-            if secret is None:
-                raise RpcError(INVALID_ADDRESS_OR_KEY, "Invalid private key")
-            try:
-                key = secp.public_key(*secret)
-            except ValueError:
-                raise RpcError(INVALID_ADDRESS_OR_KEY, "Invalid private key")
-            self.secrets[key], self.keys[hash160(key)] = secret[0], key
+
+    def add(self, key: bytes, secret: Optional[bytes]) -> None:
+        """Adds a public key, with its private one where that is known."""
+        self.keys[hash160(key)] = key
+        if secret is not None:
+            self.secrets[key] = secret
+
+
+def _read_keys(secp: Secp256k1, given: List[Any]) -> Keys:
+    """Private keys as wallets write them."""
+    found = Keys()
+    for word in given:
+        secret = read_secret(text(word))
+        if secret is None:
+            raise RpcError(INVALID_ADDRESS_OR_KEY, "Invalid private key")
+        try:
+            found.add(secp.public_key(*secret), secret[0])
+        except ValueError:
+            raise RpcError(INVALID_ADDRESS_OR_KEY, "Invalid private key")
+    return found
 
 
 def read_secret(word: str) -> Optional[Tuple[bytes, bool]]:
@@ -56,21 +67,27 @@ def signrawtransactionwithkey(node: Node, hexstring: Any, privkeys: Any, prevtxs
     with node.others():
         tx = raw_transaction(text(hexstring), "TX decode failed. Make sure the tx has at least one input.", True).tx
         secp = Secp256k1()
-        keys = _Keys(secp, array(privkeys))
+        keys = _read_keys(secp, array(privkeys))
         places = [(it.id, it.index) for it in tx.inputs]
     coins = zip(places, node.bench.coins_at(places))
     spent = {place: coin.script for place, coin in coins if coin is not None}
     redeems: Dict[bytes, bytes] = {}
     with node.others():
         for given in prevtxs or ():
-            _take_output(given, spent, redeems)
-        if sighashtype is not None and sighashtype not in HASH_TYPES:
-            raise RpcError(MISC_ERROR, f"{sighashtype[:100]} is not a valid sighash parameter.")
-        return _signed(tx, spent, _Means(secp, keys, redeems, HASH_TYPES[sighashtype or "ALL"]))
+            take_output(given, spent, redeems)
+        return sign_inputs(tx, spent, Means(secp, keys, redeems, hash_type(sighashtype)))
 
 
-def _take_output(given: Any, spent: Dict[Tuple[bytes, int], bytes], redeems: Dict[bytes, bytes]) -> None:
-    """Takes an output that a transaction spends, and the script whose hash it has."""
+def hash_type(given: Any) -> int:
+    """The hash type of a name."""
+    if given is not None and given not in HASH_TYPES:
+        raise RpcError(MISC_ERROR, f"{given[:100]} is not a valid sighash parameter.")
+    return HASH_TYPES[given or "ALL"]
+
+
+def take_output(given: Any, spent: Dict[Tuple[bytes, int], bytes], redeems: Dict[bytes, bytes], needs_redeem: bool = True) -> None:
+    """Takes an output that a transaction spends, and the script whose hash it has, which need not be given where the signer may
+    know it."""
     if not isinstance(given, dict):
         raise RpcError(DESERIALIZATION_ERROR, 'expected object with {"txid\'","vout","scriptPubKey"}')
     for name, kind in (("scriptPubKey", "string"), ("txid", "string"), ("vout", "number")):
@@ -86,7 +103,7 @@ def _take_output(given: Any, spent: Dict[Tuple[bytes, int], bytes], redeems: Dic
     if "amount" in given:
         amount(given["amount"])
     spent[id, index] = script
-    if is_script_hash(script):
+    if is_script_hash(script) and (needs_redeem or "redeemScript" in given or "witnessScript" in given):
         redeem = _redeem(given)
         if hash160(redeem) != script[2:22]:
             raise RpcError(INVALID_PARAMETER, "redeemScript/witnessScript does not match scriptPubKey")
@@ -108,16 +125,16 @@ def _redeem(given: Object) -> bytes:
 # ---- signing
 
 
-class _Means(NamedTuple):
+class Means(NamedTuple):
     """What inputs are signed by: keys, scripts by their hashes, and a hash type."""
 
     secp: Secp256k1
-    keys: _Keys
+    keys: Keys
     redeems: Dict[bytes, bytes]
     kind: int
 
 
-def _signed(tx: Transaction, spent: Dict[Tuple[bytes, int], bytes], means: _Means) -> Object:
+def sign_inputs(tx: Transaction, spent: Dict[Tuple[bytes, int], bytes], means: Means) -> Object:
     """The transaction with the signatures that could be made."""
     errors: List[Object] = []
     for place, it in enumerate(tx.inputs):
@@ -141,7 +158,7 @@ def _error(it: Input, error: str) -> Object:
 class _Signer:
     """Signs one input, as Bitcoin Core's `ProduceSignature`: signatures that it has already are kept."""
 
-    def __init__(self, tx: Transaction, place: int, script: bytes, means: _Means) -> None:
+    def __init__(self, tx: Transaction, place: int, script: bytes, means: Means) -> None:
         self.tx, self.place, self.script, self.means = tx, place, script, means
         self.error = ""
         #: The signatures by their keys, as they are found or made.
