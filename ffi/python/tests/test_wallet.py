@@ -454,7 +454,8 @@ class Run:
     def pay(self, wallet=None, to=None):
         wallet = wallet or self.wallet
         target = to or self.random.choice([OTHER, script_of(wallet.address()), script_of(self.other.address())])
-        wallet.pay(target, self.random.randrange(1000, 2 * COIN), is_replaceable=self.random.random() < 0.5)
+        # Blocks pay less and less: a long run has to do with what the first ones paid.
+        wallet.pay(target, self.random.randrange(1000, COIN // 100 if HEAVY else 2 * COIN), is_replaceable=self.random.random() < 0.5)
         self.count += 1
 
     def come(self):
