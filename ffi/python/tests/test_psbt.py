@@ -6,8 +6,10 @@ import random
 import resource
 import time
 import unittest
+from contextlib import nullcontext
 from copy import deepcopy
 from dataclasses import replace
+from unittest import mock
 
 import peers
 from servers import Running
@@ -16,9 +18,9 @@ from wakotehu.addresses import base58
 from wakotehu.encoding import Input, Output, Transaction, hash160, push, write_transaction
 from wakotehu.psbt import Psbt, PsbtError, PsbtInput, PsbtOutput
 from wakotehu.psbtsigning import Means, fill, finalize
-from wakotehu.rpc import psbts
-from wakotehu.rpc.node import CALLS
+from wakotehu.rpc import walletpsbts
 from wakotehu.signatures import Secp256k1
+from wakotehu.wallet.funding import Funded
 
 SECP = Secp256k1()
 #: BIP 174's vectors: what a creator, an updater and a finalizer make, the transaction, and one whose coin's transaction has
@@ -578,8 +580,10 @@ class BesideLitecoindTest(unittest.TestCase):
 
     def test_a_wallets_calls(self):
         """Over a wallet that has what litecoind's has."""
-        psbts.register(lambda node: Wallet())
-        self.addCleanup(lambda: [CALLS.pop(name) for name in ("walletprocesspsbt", "walletcreatefundedpsbt")])
+        for name, found in (("using", lambda node: nullcontext()), ("Held", lambda wallet: Wallet())):
+            patched = mock.patch.object(walletpsbts, name, found)
+            patched.start()
+            self.addCleanup(patched.stop)
         made = psbt.to_base64(next(forms()))
         for given in (made, UPDATED, FINAL, "x"):
             for more in ((True, "ALL", False), (False, "ALL", False), (True, "NONE", False)):
@@ -667,7 +671,7 @@ class Wallet:
 
     def fund(self, tx, options, adds):
         more = [Input(bytes([9]) * 32, 0, b"", 7)] * adds
-        return psbts.Funded(tx._replace(inputs=[*tx.inputs, *more], outputs=[*tx.outputs, Output(5, paid(ONE))]), 100, 1)
+        return Funded(tx._replace(inputs=[*tx.inputs, *more], outputs=[*tx.outputs, Output(5, paid(ONE))]), 100, 1)
 
 
 def unordered(given):

@@ -161,6 +161,74 @@ class DescriptorsTest(Case):
                 self.assertEqual((error["code"], text in error["message"]), (code, True), error)
 
 
+class PartiallySignedTest(Case):
+    def made(self, name, outputs, *more):
+        found = self.call("walletcreatefundedpsbt", [], outputs, 0, *more, path=f"/wallet/{name}")
+        return found, self.call("decodepsbt", found["psbt"])
+
+    def mined(self, complete):
+        """Sent and mined: its fields in the chain."""
+        id = self.call("sendrawtransaction", self.call("finalizepsbt", complete)["hex"])
+        self.call("generatetoaddress", 1, OTHER)
+        return self.call("getrawtransaction", id, True, self.call("getbestblockhash"))
+
+    def test_one_wallet(self):
+        self.funded()
+        found, shown = self.made("w", {OTHER: 1})
+        [spends] = shown["inputs"]
+        own = spends["non_witness_utxo"]["vout"][0]["scriptPubKey"]["address"]
+        info = self.call("getaddressinfo", own)
+        [origin] = spends["bip32_derivs"]
+        self.assertEqual((origin["pubkey"], origin["path"]), (info["pubkey"], info["hdkeypath"].replace("h", "'")))
+        self.assertEqual([shown["fee"], shown["tx"]["vout"][1 - found["changepos"]]["value"]], [found["fee"], 1])
+        self.assertIn("bip32_derivs", shown["outputs"][found["changepos"]])
+        without = self.made("w", {OTHER: 1}, {}, False)[1]
+        self.assertNotIn("bip32_derivs", json.dumps(without))
+        self.assertFalse(self.call("walletprocesspsbt", found["psbt"], False)["complete"])
+        signed = self.call("walletprocesspsbt", found["psbt"])
+        self.assertTrue(signed["complete"])
+        mined = self.mined(signed["psbt"])
+        self.assertEqual(self.call("gettransaction", mined["txid"])["fee"], -found["fee"])
+
+    def test_refusals(self):
+        self.funded()
+        code = lambda *given: self.call("walletcreatefundedpsbt", *given)["code"]
+        self.assertEqual(code([], {OTHER: 1000}), -4)
+        self.assertEqual(code([], []), -8)
+        self.assertEqual(code([], {OTHER: 1}, 0, {"x": 1}), -3)
+        self.assertEqual(code([], {OTHER: 1}, 0, {"add_inputs": False}), -4)
+        self.assertEqual(self.call("walletprocesspsbt", "x")["code"], -22)
+        self.call("unloadwallet", "w")
+        self.assertEqual(code([], {OTHER: 1}), -18)
+
+    def test_two_wallets(self):
+        """A coin that both have to sign for: one after the other, and apart."""
+        self.funded("w")
+        self.call("createwallet", "v")
+        keys = []
+        for name in ("w", "v"):
+            at = self.call("getnewaddress", path=f"/wallet/{name}")
+            keys.append([self.call(*it, path=f"/wallet/{name}") for it in (("getaddressinfo", at), ("dumpprivkey", at))])
+        (one, one_secret), (two, two_secret) = [(info["pubkey"], secret) for info, secret in keys]
+        for name, own in (("w", f"sh(multi(2,{one_secret},{two}))"), ("v", f"sh(multi(2,{one},{two_secret}))")):
+            given = [{"desc": f"{own}#{checksum(own)}", "timestamp": "now"}]
+            self.assertTrue(self.call("importdescriptors", given, path=f"/wallet/{name}")[0]["success"])
+        public = f"sh(multi(2,{one},{two}))"
+        [shared] = self.call("deriveaddresses", f"{public}#{checksum(public)}")
+        for signs_apart in (False, True):
+            id = self.call("sendtoaddress", shared, 5, path="/wallet/w")
+            [place] = [it["n"] for it in self.call("getrawtransaction", id, True)["vout"] if it["value"] == 5]
+            self.call("generatetoaddress", 1, OTHER)
+            given = [{"txid": id, "vout": place}], {OTHER: 4.9}, 0, {"changeAddress": shared}
+            made = self.call("walletcreatefundedpsbt", *given, path="/wallet/w")["psbt"]
+            first = self.call("walletprocesspsbt", made, path="/wallet/w")
+            self.assertFalse(first["complete"])
+            second = self.call("walletprocesspsbt", made if signs_apart else first["psbt"], path="/wallet/v")
+            self.assertEqual(second["complete"], not signs_apart)
+            both = self.call("combinepsbt", [first["psbt"], second["psbt"]]) if signs_apart else second["psbt"]
+            self.assertEqual(self.mined(both)["vin"][0]["txid"], id)
+
+
 class MessagesTest(Case):
     def test_beside_bitcoinlib(self):
         bitcoin.SelectParams("regtest")

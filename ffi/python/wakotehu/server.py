@@ -21,7 +21,7 @@ from .nodebench import SEATS, NodeBench
 from .replicabench import ReplicaBench
 from .rpc import (
     addresses, blockchain, chain, control, descriptors, filters, making, mining, notices, policy, proofs, psbts, saved, sending,
-    settings, signing, stats, template, txs, waiting, walletcoins, walletkeys, wallets, walletsending,
+    settings, signing, stats, template, txs, waiting, walletcoins, walletkeys, walletpsbts, wallets, walletsending,
 )  # fmt: skip
 from .rpc.auth import COOKIE_USER, Gate, remove_cookie, write_cookie
 from .rpc.datadir import BadFolder, Folder, Opening
@@ -40,7 +40,7 @@ from .version import __version__
 #: The modules that put calls into the table.
 MODULES = (
     addresses, blockchain, chain, control, descriptors, filters, making, mining, notices, proofs, psbts, saved, sending, signing,
-    stats, template, txs, waiting, walletcoins, walletkeys, wallets, walletsending,
+    stats, template, txs, waiting, walletcoins, walletkeys, walletpsbts, wallets, walletsending,
 )  # fmt: skip
 #: The file of -datadir that has what waits to be mined.
 MEMPOOL = "mempool.dat"

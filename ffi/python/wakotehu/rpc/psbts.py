@@ -1,8 +1,8 @@
-"""Calls for partially signed transactions (BIP 174). Those that a wallet answers are functions over a `PsbtWallet`."""
+"""Calls for partially signed transactions (BIP 174). `walletpsbts` has those that a wallet answers."""
 
 import re
 import secrets
-from typing import Any, Callable, Dict, List, Mapping, NamedTuple, Optional, Protocol, Tuple, Union
+from typing import Any, Dict, List, Mapping, NamedTuple, Optional, Tuple, Union
 
 from .. import consensus
 from ..chainstate import Coin
@@ -32,7 +32,8 @@ _CREATOR, _UPDATER, _SIGNER, _FINALIZER, _EXTRACTOR = range(5)
 _SIGOP_SIZE = 20
 
 
-def _read(given: Any) -> Psbt:
+def read(given: Any) -> Psbt:
+    """One in base64."""
     try:
         return from_base64(text(given))
     except PsbtError as error:
@@ -45,7 +46,7 @@ def _read_all(given: List[Any]) -> List[Psbt]:
     """Several, which have no more bytes together than one may have."""
     if sum(len(it) for it in given if isinstance(it, str)) > 4 * MAX_PSBT // 3:
         raise RpcError(DESERIALIZATION_ERROR, f"TX decode failed They have more than {MAX_PSBT} bytes")
-    return list(map(_read, given))
+    return list(map(read, given))
 
 
 # ---- made
@@ -97,7 +98,7 @@ def _converted(data: bytes, is_witness: Optional[bool]) -> _Converted:
 def decodepsbt(node: Node, psbt: Any) -> Object:
     """A partially signed transaction, shown."""
     with node.others():
-        found = _read(psbt)
+        found = read(psbt)
         fields: Object = {
             "tx": _transaction(found.tx),
             "unknown": _hex(found.unknown),
@@ -148,6 +149,12 @@ def _script(code: bytes, with_address: bool = False) -> Object:
 
 def _hex(pairs: Mapping[bytes, bytes]) -> Dict[str, str]:
     return {key.hex(): value.hex() for key, value in sorted(pairs.items())}
+
+
+def origin_of(fingerprint: str, path: str) -> bytes:
+    """An origin as `PsbtInput.derivations` has it, of a fingerprint in hexadecimal and a path such as /1'/2."""
+    steps = (int(step.rstrip("'")) + (1 << 31) * step.endswith("'") for step in path.split("/")[1:])
+    return bytes.fromhex(fingerprint) + b"".join(step.to_bytes(4, "little") for step in steps)
 
 
 def _origin(key: bytes, origin: bytes) -> Object:
@@ -236,7 +243,7 @@ def finalizepsbt(node: Node, psbt: Any, extracts: Any) -> Object:
     for value, kind in ((psbt, "string"), (extracts, "bool")):
         expect_or_null(value, kind)
     with node.others():
-        found = _read(psbt)
+        found = read(psbt)
         complete = all([it.is_complete for it in _signed(node, Signer(found))])
         if complete and extracts is not False:
             return {"hex": extract(found).hex(), "complete": True}
@@ -249,7 +256,7 @@ def utxoupdatepsbt(node: Node, psbt: Any, descriptors: Any) -> str:
     for value, kind in ((psbt, "string"), (descriptors, "array")):
         expect_or_null(value, kind)
     with node.others():
-        found = _read(psbt)
+        found = read(psbt)
         means = _means(scanned_scripts(node, descriptors or []))
     coins = _coins(node, [(it.id, it.index) for it in found.tx.inputs])
     with node.others():
@@ -289,8 +296,7 @@ def _means(described: Mapping[bytes, str]) -> Means:
         for fingerprint, path, digits in _ORIGIN.findall(name):
             key = bytes.fromhex(digits)
             keys[hash160(key)] = key
-            steps = (int(step.rstrip("'")) + (1 << 31) * step.endswith("'") for step in path.split("/")[1:])
-            origins.setdefault(key, bytes.fromhex(fingerprint) + b"".join(step.to_bytes(4, "little") for step in steps))
+            origins.setdefault(key, origin_of(fingerprint, path))
         while name.startswith(("sh(", "wsh(")):
             name = name.partition("(")[2][:-1]
             code = _inner(name)
@@ -343,7 +349,7 @@ class _Analysed(NamedTuple):
 def analyzepsbt(node: Node, psbt: Any) -> Object:
     """What a partially signed transaction has, what it lacks, and what it needs next."""
     with node.others():
-        found = _read(psbt)
+        found = read(psbt)
         try:
             return _analysed(node, found)
         except _Faulty as error:
@@ -433,78 +439,3 @@ def _operations(own: PsbtInput, spent: Optional[Output]) -> int:
     if kind == "witness_v0_keyhash":
         return 4 * before + 1
     return 4 * before + (consensus.script(own.final_witness[-1]).accurate if kind == "witness_v0_scripthash" else 0)
-
-
-# ---- with a wallet
-
-
-class Funded(NamedTuple):
-    """A transaction with inputs and change added, what it pays, and which output is the change; -1 for none."""
-
-    tx: Transaction
-    fee: int
-    change: int
-
-
-class PsbtWallet(Protocol):
-    """What a wallet gives. It is asked without the turn."""
-
-    def means(self, psbt: Psbt) -> Means:
-        """Its keys and scripts, those of this one's inputs and outputs at least."""
-
-    def previous(self, id: bytes) -> Optional[bytes]:
-        """The bytes of its transaction of an id."""
-
-    def fund(self, tx: Transaction, options: Object, adds: bool) -> Funded:
-        """A transaction that pays its outputs and a fee, by the options of fundrawtransaction; `adds`: coins are chosen unless
-        the options say otherwise."""
-
-
-def register(wallet_of: Callable[[Node], PsbtWallet]) -> None:
-    """Puts the calls of wallets into the table."""
-
-    @call("Wallet", "psbt", "sign", "sighashtype", "bip32derivs", needed=1, types=("string", "bool", "string"))
-    def walletprocesspsbt(node: Node, psbt: Any, sign: Any, sighashtype: Any, bip32derivs: Any) -> Object:
-        """Adds what the wallet knows to a partially signed transaction, and signs it."""
-        wallet = wallet_of(node)
-        with node.others():
-            return _processed(wallet, psbt, sign, sighashtype, bip32derivs)
-
-    @call("Wallet", "inputs", "outputs", "locktime", "options", "bip32derivs", needed=2)
-    def walletcreatefundedpsbt(node: Node, inputs: Any, outputs: Any, locktime: Any, options: Any, bip32derivs: Any) -> Object:
-        """A partially signed transaction to which the wallet adds inputs and change."""
-        wallet = wallet_of(node)
-        with node.others():
-            return _funded(wallet, inputs, outputs, locktime, options, bip32derivs)
-
-
-def _processed(wallet: PsbtWallet, psbt: Any, sign: Any, sighashtype: Any, bip32derivs: Any) -> Object:
-    found = _read(psbt)
-    kind = "ALL" if sighashtype is None else text(sighashtype)
-    if kind not in HASH_TYPES:
-        raise RpcError(MISC_ERROR, f"{kind[:100]} is not a valid sighash parameter.")
-    complete = _fill(wallet, found, HASH_TYPES[kind], sign is not False, bip32derivs)
-    return {"psbt": to_base64(found), "complete": complete}
-
-
-def _funded(wallet: PsbtWallet, inputs: Any, outputs: Any, locktime: Any, options: Any, bip32derivs: Any) -> Object:
-    for value, kind in ((inputs, "array"), (locktime, "number"), (options, "object"), (bip32derivs, "bool")):
-        expect_or_null(value, kind)
-    given = object_of(options or {})
-    if given.get("replaceable") is not None:
-        expect(given["replaceable"], "bool")
-    tx = made_transaction(inputs, outputs, locktime, given.get("replaceable"))
-    funded = wallet.fund(tx, given, not tx.inputs)
-    found = blank(funded.tx)
-    _fill(wallet, found, 1, False, bip32derivs)
-    return {"psbt": to_base64(found), "fee": Amount(funded.fee), "changepos": funded.change}
-
-
-def _fill(wallet: PsbtWallet, psbt: Psbt, kind: int, signs: bool, tells_origins: Any) -> bool:
-    origins = True if tells_origins is None else boolean(tells_origins)
-    try:
-        return fill(psbt, wallet.means(psbt), wallet.previous, kind, signs, origins)
-    except HashTypeMismatch as error:
-        raise RpcError(DESERIALIZATION_ERROR, str(error)) from None
-    except MissingOutput as error:
-        raise RpcError(TRANSACTION_ERROR, str(error)) from None

@@ -147,6 +147,11 @@ def is_script_hash(script: bytes) -> bool:
     return len(script) == 23 and script[:2] == b"\xa9\x14" and script[22:] == b"\x87"
 
 
+def key_script(key: bytes) -> bytes:
+    """The script that pays to a key's hash."""
+    return b"\x76\xa9\x14" + hash160(key) + b"\x88\xac"
+
+
 def kind_of(script: bytes) -> Tuple[str, int, List[str]]:
     """A script's type, how many signatures spend it, and the addresses that it pays to (Bitcoin Core's `Solver`)."""
     if is_script_hash(script):

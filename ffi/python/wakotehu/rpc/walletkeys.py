@@ -15,7 +15,7 @@ from .errors import (
     INVALID_ADDRESS_OR_KEY, INVALID_LABEL_NAME, INVALID_PARAMETER, TYPE_ERROR, WALLET_ERROR, RpcError,
 )  # fmt: skip
 from .node import Node, call
-from .scripts import address_script, compact, is_script_hash, kind_of, script_keys, without_checksum
+from .scripts import address_script, compact, is_script_hash, key_script, kind_of, script_keys, without_checksum
 from .signing import read_secret
 from .values import Amount, Object, boolean, integer, is_number, kind_name, object_of, text
 from .wallets import GROUP, named, rescanned, using
@@ -196,7 +196,7 @@ def importprivkey(node: Node, privkey: Any, label: Any, rescan: Any) -> None:
         except ValueError:
             raise RpcError(INVALID_ADDRESS_OR_KEY, "Private key outside allowed range") from None
         wallet.add(f"combo({secret_text(*secret)})", 1)
-        script = b"\x76\xa9\x14" + hash160(key) + b"\x88\xac"
+        script = key_script(key)
         if label is not None or script not in wallet.labels:
             wallet.set_label(script, own, "receive")
     if looks:

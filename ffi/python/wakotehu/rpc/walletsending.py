@@ -5,10 +5,10 @@ import sqlite3
 from typing import Any, Dict, List, NamedTuple, Optional, Set, Tuple
 
 from ..chainstate import show
-from ..encoding import Output, write_transaction
+from ..encoding import Output, Transaction, write_transaction
 from ..replacing import REPLACEABLE
 from ..wallet import Payment, Plan, Wallet, WalletError
-from ..wallet.funding import MOST_FEE, expect_place
+from ..wallet.funding import MOST_FEE, Funded, expect_place
 from ..wallet.keys import expect_type
 from .errors import (
     INSUFFICIENT_FUNDS, INVALID_ADDRESS_OR_KEY, INVALID_PARAMETER, TYPE_ERROR, WALLET_ERROR, RpcError,
@@ -168,17 +168,17 @@ def fundrawtransaction(node: Node, hexstring: Any, options: Any, iswitness: Any)
     expect_or_null(iswitness, "bool")
     with using(node) as wallet:
         tx = raw_transaction(hexstring, "TX decode failed", False).tx
-        given = {} if options is None or isinstance(options, bool) else _checked(options)
-        if not tx.outputs:
-            raise RpcError(INVALID_PARAMETER, "TX must have at least one output")
-        plan, locks = fund_plan(wallet, list(tx.outputs), given)
-        plan.inputs, plan.version, plan.lock_time = tx.inputs, tx.version, tx.lock_time
-        found = funded(wallet, plan, locks)
+        given = {} if options is None or isinstance(options, bool) else checked_options(options)
+        found = fund(wallet, tx, given)
         return {"hex": write_transaction(found.tx).hex(), "fee": Amount(found.fee), "changepos": found.change}
 
 
-def funded(wallet: Wallet, plan: Plan, locks: bool) -> Any:
-    """What the wallet makes of a plan; its coins are locked where that is asked for."""
+def fund(wallet: Wallet, tx: Transaction, given: Object) -> Funded:
+    """A transaction with inputs and change added, by the options of fundrawtransaction; its coins are locked where that is asked for."""
+    if not tx.outputs:
+        raise RpcError(INVALID_PARAMETER, "TX must have at least one output")
+    plan, locks = _fund_plan(wallet, list(tx.outputs), given)
+    plan.inputs, plan.version, plan.lock_time = tx.inputs, tx.version, tx.lock_time
     try:
         found = wallet.fund(plan)
     except WalletError as error:
@@ -188,7 +188,8 @@ def funded(wallet: Wallet, plan: Plan, locks: bool) -> Any:
     return found
 
 
-def _checked(given: Any) -> Object:
+def checked_options(given: Any) -> Object:
+    """The options of fundrawtransaction or walletcreatefundedpsbt that are given."""
     for name, value in object_of(given).items():
         if name not in _OPTIONS:
             raise RpcError(TYPE_ERROR, f"Unexpected key {name[:100]}")
@@ -198,7 +199,7 @@ def _checked(given: Any) -> Object:
     return {name: value for name, value in given.items() if value is not None}
 
 
-def fund_plan(wallet: Wallet, outputs: List[Output], given: Object) -> Tuple[Plan, bool]:
+def _fund_plan(wallet: Wallet, outputs: List[Output], given: Object) -> Tuple[Plan, bool]:
     """How outputs are paid by the options of fundrawtransaction or walletcreatefundedpsbt, and whether the coins are locked."""
 
     def option(name: str, other: str) -> Any:
