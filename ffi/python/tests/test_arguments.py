@@ -362,7 +362,7 @@ ROWS = [
         "name": ("text", ""), "is_blank": ("flag", True), "has_private": ("flag", True), "settings": ("own", wallet.Settings(3)),
     }),
     row("wallet.Wallet.address", label=("text", ""), type=("text", "legacy")), row("wallet.Wallet.balance", least_depth=("number32", 0)),
-    *(row(f"wallet.Wallet.{name}") for name in ("balances", "unspent", "follow", "close")),
+    *(row(f"wallet.Wallet.{name}") for name in ("abort_rescan", "balances", "unspent", "follow", "close")),
     row("wallet.Wallet.pay", to=("payee", b"\x51"), satoshis=("step", 1000), rate=("moment", 1000), is_replaceable=("flag", False)),
     row("wallet.Wallet.bump", id=ID, rate=("moment", 1000), is_replaceable=("flag", False)),
     *(row(f"wallet.Wallet.{name}", id=ID) for name in ("transaction", "abandon")), row("wallet.Wallet.key_for", script=("bytes", b"")),

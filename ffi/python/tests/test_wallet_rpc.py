@@ -9,6 +9,7 @@ import tempfile
 import threading
 import time
 import unittest
+from unittest import mock
 
 import bitcoin
 from bitcoin.signmessage import BitcoinMessage, VerifyMessage
@@ -374,6 +375,31 @@ class WaitingTest(Case):
         thread.join()
         self.assertEqual(ended, [{"start_height": 0, "stop_height": 3120}])
         self.assertLess(slowest, 0.5)
+
+    def test_a_rescan_is_aborted(self):
+        self.funded(blocks=20)
+        self.assertIs(self.call("abortrescan"), False)
+        wallet = self.server.node.wallets.loaded["w"]
+        began, aborted, part = threading.Event(), threading.Event(), wallet._scan
+
+        def scan(*given):
+            began.set()
+            aborted.wait(10)
+            part(*given)
+
+        ended = []
+        with mock.patch.object(wallet, "_scan", scan):
+            thread = threading.Thread(target=lambda: ended.append(self.call("rescanblockchain")))
+            thread.start()
+            self.assertTrue(began.wait(10))
+            aborts = threading.Thread(target=lambda: ended.extend(self.call("abortrescan") for _ in range(2)))
+            aborts.start()
+            threading.Timer(0.2, aborted.set).start()
+            aborts.join()
+            thread.join()
+        self.assertEqual([it for it in ended if isinstance(it, bool)], [True, False])
+        self.assertEqual([it["code"] for it in ended if isinstance(it, dict)], [-1])
+        self.assertEqual(self.call("rescanblockchain")["stop_height"], 120)
 
 
 class ManyTest(Case):

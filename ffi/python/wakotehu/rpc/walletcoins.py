@@ -14,7 +14,7 @@ from .scripts import address_script
 from .txs import transaction_fields
 from .values import Amount, Object, amount, array, boolean, digits, expect, integer, kind_name, object_of, text
 from .walletkeys import described
-from .wallets import GROUP, rescanned, using
+from .wallets import GROUP, rescanned, using, wallet_of
 
 #: All depths.
 _DEEPEST = 9_999_999
@@ -385,3 +385,11 @@ def rescanblockchain(node: Node, start_height: Any, stop_height: Any) -> Object:
                 raise RpcError(INVALID_PARAMETER, "stop_height must be greater than start_height")
     with node.others():
         return {"start_height": start, "stop_height": rescanned(node, wallet, start, stop)}
+
+
+@call(GROUP)
+def abortrescan(node: Node) -> bool:
+    """Ends the rescan of the wallet that another call waits for: whether there was one."""
+    wallet = wallet_of(node)
+    with node.others():
+        return wallet.abort_rescan()

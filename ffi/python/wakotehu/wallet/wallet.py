@@ -16,7 +16,9 @@ from ..errors import DecodeFailed, NotAccepted
 from ..pool import Pool
 from ..replacing import REPLACEABLE, money, rate, signals
 from ..rpc.descriptors import Script, Underivable, curve
-from ..rpc.errors import INSUFFICIENT_FUNDS, INVALID_ADDRESS_OR_KEY, INVALID_PARAMETER, KEYPOOL_RAN_OUT, WALLET_ERROR, WALLET_NOT_FOUND
+from ..rpc.errors import (
+    INSUFFICIENT_FUNDS, INVALID_ADDRESS_OR_KEY, INVALID_PARAMETER, KEYPOOL_RAN_OUT, MISC_ERROR, WALLET_ERROR, WALLET_NOT_FOUND,
+)  # fmt: skip
 from ..rpc.signing import Keys, Means, sign_inputs
 from ..rpc.values import MAX_MONEY, Object
 from .coins import Balances, Coin, Ledger, Outpoint, Record
@@ -105,6 +107,7 @@ class Wallet:
         #: What settxfee sets, in satoshis for 1,000 bytes; and whether a rescan runs: since when, and how far it is.
         self.rate = 0
         self.scanning: Optional[Tuple[float, float]] = None
+        self._aborts = False
         self._heard: Set[bytes] = set()
         self._changes = -2
         self._is_closed = False
@@ -260,7 +263,7 @@ class Wallet:
         self, start: int = 0, stop: Optional[int] = None, is_ending: Optional[Callable[[], bool]] = None
     ) -> int:  # fmt: skip
         """Looks for the wallet's transactions in active blocks from a height on, up to another or to the last: that height. Other
-        threads use the wallet meanwhile. It ends where `is_ending` says so."""
+        threads use the wallet meanwhile. It ends with a `WalletError` where `is_ending` or `abort_rescan` says so."""
         height, began = max(1, arguments.number(start, "start")), time.monotonic()
         stop = None if stop is None else arguments.number(stop, "stop")
         if is_ending is not None and not callable(is_ending):
@@ -268,9 +271,9 @@ class Wallet:
         with self.lock:
             if self.scanning is not None:
                 raise WalletError(WALLET_ERROR, "Wallet is currently rescanning. Abort existing rescan or wait.")
-            self.scanning = began, 0.0
+            self.scanning, self._aborts = (began, 0.0), False
         try:
-            while is_ending is None or not is_ending():
+            while not self._aborts and (is_ending is None or not is_ending()):
                 with self.used():
                     last = self.ledger.height if stop is None else min(stop, self.ledger.height)
                     if height > last:
@@ -278,9 +281,17 @@ class Wallet:
                     self.scanning = began, (height - start) / max(1, last - start + 1)
                     self._scan(self.ledger.best, height, min(height + PART - 1, last))
                 height += PART
-            raise WalletError(WALLET_ERROR, "Rescan aborted.")
+            raise WalletError(MISC_ERROR, "Rescan aborted.")
         finally:
             self.scanning = None
+
+    def abort_rescan(self) -> bool:
+        """Has a rescan end, which raises there: whether one runs that wasn't told so before."""
+        # A rescan holds the lock for a part.
+        if self.scanning is None or self._aborts:
+            return False
+        self._aborts = True
+        return True
 
     def scan_state(self) -> Optional[Tuple[float, float]]:
         """How long a rescan runs, in seconds, and how far it is, up to 1; None where none does."""
