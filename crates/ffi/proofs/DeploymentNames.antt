@@ -1,6 +1,6 @@
 -- Names of soft forks are ASCII.
-use Rattle.std.proofs.Common.{◌≡◌, ℕ, zero, suc, ◌<◌, Bool, true, false, ◌&&◌, nat_lt, List, [], ◌∷◌, Option, Some, None, refl, sym, ap, ◌∙◌, arith}
-use borrow.Author.Tests.{ltb-true}
+use Rattle.std.proofs.Common.{◌≡◌, ℕ, zero, suc, Bool, true, false, ◌&&◌, nat_lt, List, [], ◌∷◌, Option, Some, None, refl, ap, ◌∙◌, arith}
+use Rattle.std.proofs.lemmas.Bool.{ltb-true}
 use Rattle.std.specs.Str.{bytes_eq, IsAscii, IsUtf8}
 use Rattle.std.proofs.lemmas.Slice.Eq.{bytes_eq-Decides}
 use Rattle.std.proofs.lemmas.Str.{IsUtf8-from_ascii}
@@ -19,6 +19,7 @@ both true false e = absurd cc
 both false b e = absurd cc
 
 ascii-sound : (bs : List ℕ) → ascii bs ≡ true → IsAscii bs
+unfolding ascii
 ascii-sound [] all i = omega arith
 ascii-sound (b ∷ bs) all zero = ltb-true b 128 (both (nat_lt b 128) (ascii bs) all).0
 ascii-sound (b ∷ bs) all (suc i) = ascii-sound bs (both (nat_lt b 128) (ascii bs) all).1 i
@@ -28,6 +29,7 @@ all_ascii [] = true
 all_ascii (row ∷ rows) = ascii row.0 && all_ascii rows
 
 among-ascii : (rows : List (List ℕ × Deployment)) (name : List ℕ) (deployment : Deployment) → all_ascii rows ≡ true → named_among rows name ≡ Some deployment → ascii name ≡ true
+unfolding ascii all_ascii
 among-ascii [] name deployment all is = absurd cc
 among-ascii (row ∷ rows) name deployment all is = by (bytes_eq name row.0) refl (among-ascii rows name deployment parts.1)
   where
@@ -39,6 +41,7 @@ among-ascii (row ∷ rows) name deployment all is = by (bytes_eq name row.0) ref
     by false same others = others (rw same at is)
 
 pub named-utf8 : (name : List ℕ) (deployment : Deployment) → deployment_named name ≡ Some deployment → IsUtf8 name
+unfolding ascii all_ascii
 named-utf8 name deployment is = IsUtf8-from_ascii name (ascii-sound name (among-ascii names name deployment refl is))
 
 -- what is no text is no name
