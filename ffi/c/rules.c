@@ -3,6 +3,7 @@
  * proved functions ffi_* of crates/ffi do the work. What it owes them: each pointer points to what its type says, and
  * to nothing that another argument points to. Nothing is kept between two calls.
  */
+#include "params.h"
 #include "wakotehu.h"
 
 #include <stdbool.h>
@@ -22,7 +23,7 @@ uint32_t ffi_tx_write(int32_t version, uint32_t lock_time, const wakotehu_input 
 uint32_t ffi_block(const uint8_t *bytes, size_t length, wakotehu_block_shown *shown);
 uint32_t ffi_block_size(const uint8_t *bytes, size_t length, uint64_t *size);
 uint32_t ffi_block_place(const uint8_t *bytes, size_t length, uint32_t height, uint32_t median, uint64_t now,
-                         const wakotehu_heights *heights, uint32_t *reason);
+                         const wakotehu_params *params, uint32_t *reason);
 uint32_t ffi_header_read(const uint8_t *bytes, size_t length, wakotehu_header_fields *header);
 uint32_t ffi_merkle(const uint8_t *ids, size_t count, uint8_t *root, uint32_t *twin);
 void ffi_read_bits(uint32_t bits, uint8_t *target, uint32_t *negative, uint32_t *overflow);
@@ -173,9 +174,17 @@ wakotehu_code wakotehu_block_transactions(const uint8_t *bytes, size_t length, w
 
 wakotehu_code wakotehu_block_place(const uint8_t *bytes, size_t length, uint32_t height, uint32_t median, uint64_t now,
                                    const wakotehu_heights *heights, uint32_t *reason) {
-    if (!readable(bytes, length) || !heights || !reason)
+    if (!heights)
         return WAKOTEHU_NULL;
-    return (wakotehu_code)ffi_block_place(AT(bytes, length), length, height, median, now, heights, reason);
+    wakotehu_params params = params_of(heights);
+    return wakotehu_block_place_with(bytes, length, height, median, now, &params, reason);
+}
+
+wakotehu_code wakotehu_block_place_with(const uint8_t *bytes, size_t length, uint32_t height, uint32_t median, uint64_t now,
+                                        const wakotehu_params *params, uint32_t *reason) {
+    if (!readable(bytes, length) || !params || !reason)
+        return WAKOTEHU_NULL;
+    return (wakotehu_code)ffi_block_place(AT(bytes, length), length, height, median, now, params, reason);
 }
 
 wakotehu_code wakotehu_record(const uint8_t *bytes, size_t length, size_t *block) {

@@ -10,6 +10,7 @@
  * threads may share it, and that each leaves it as it was; that none writes to it meanwhile rests on its calls, which only
  * borrow it.
  */
+#include "params.h"
 #include "wakotehu.h"
 
 #include <stdatomic.h>
@@ -64,9 +65,10 @@ struct all_told {
     uint32_t error;
 };
 
-uint32_t ffi_open(struct slot *slot, const wakotehu_heights *heights, const uint8_t *table, size_t length,
+uint32_t ffi_set_height(wakotehu_params *params, const uint8_t *name, size_t length, uint32_t height);
+uint32_t ffi_open(struct slot *slot, const wakotehu_params *params, const uint8_t *table, size_t length,
                   uint64_t *line);
-uint32_t ffi_open_by_need(struct slot *slot, const wakotehu_heights *heights);
+uint32_t ffi_open_by_need(struct slot *slot, const wakotehu_params *params);
 uint32_t ffi_want(struct slot *slot, uint64_t index, uint8_t *line, size_t length, uint64_t *needed);
 uint32_t ffi_learn(struct slot *slot, const uint8_t *key, size_t key_length, const uint8_t *signature,
                    size_t signature_length, const uint8_t *digest, uint32_t valid);
@@ -93,7 +95,7 @@ uint32_t ffi_spent(struct slot *slot, const uint8_t *id, wakotehu_coin *coins, s
 /* Where a block is connected. */
 struct setting {
     struct bytes medians;
-    wakotehu_heights heights;
+    wakotehu_params params;
     uint32_t height, cutoff;
 };
 
@@ -137,7 +139,8 @@ _Static_assert(sizeof(struct known_question) == 32 && offsetof(struct known_ques
 _Static_assert(sizeof(struct told) == 24 && offsetof(struct told, error) == 16, "as InputTold");
 _Static_assert(sizeof(struct all_asked) == 72 && offsetof(struct all_asked, flags) == 64, "as AllQuestion");
 _Static_assert(sizeof(struct all_told) == 32 && offsetof(struct all_told, error) == 24, "as AllTold");
-_Static_assert(sizeof(struct setting) == 40 && offsetof(struct setting, cutoff) == 36, "as BlockSetting");
+_Static_assert(sizeof(wakotehu_params) == 24 && offsetof(wakotehu_params, nulldummy) == 16, "as Heights");
+_Static_assert(sizeof(struct setting) == 48 && offsetof(struct setting, cutoff) == 44, "as BlockSetting");
 _Static_assert(sizeof(struct inputs_told) == 16 && offsetof(struct inputs_told, reason) == 8, "as InputsTold");
 _Static_assert(sizeof(wakotehu_fault) == 24 && offsetof(wakotehu_fault, reason) == 16, "as Fault");
 _Static_assert(sizeof(struct place) == 36, "as Place");
@@ -271,7 +274,7 @@ static bool readable(const void *bytes, size_t length) { return (bytes || !lengt
 /* What is opened: by a table, or by need, or as another one is; or a set of coins. */
 struct opening {
     enum kind kind;
-    const wakotehu_heights *heights;
+    const wakotehu_params *params;
     const uint8_t *table;
     size_t length;
     uint64_t *line;
@@ -285,8 +288,8 @@ static uint32_t open_slot(struct slot *slot, const struct opening *asked) {
     if (asked->copied)
         return ffi_copy(asked->copied, slot);
     if (asked->by_need)
-        return ffi_open_by_need(slot, asked->heights);
-    return ffi_open(slot, asked->heights, asked->table, asked->length, asked->line);
+        return ffi_open_by_need(slot, asked->params);
+    return ffi_open(slot, asked->params, asked->table, asked->length, asked->line);
 }
 
 /* The next opening in a place of a kind, for this call alone; 0 where the place isn't free. */
@@ -314,19 +317,50 @@ static wakotehu_code open_place(wakotehu_handle *handle, const struct opening *a
     return WAKOTEHU_TOO_MANY;
 }
 
-wakotehu_code wakotehu_open(wakotehu_handle *handle, const wakotehu_heights *heights, const char *table,
-                            size_t length, uint64_t *line) {
+wakotehu_params *wakotehu_params_new(const wakotehu_heights *heights) {
+    wakotehu_params *made = heights ? malloc(sizeof *made) : NULL;
+    if (made)
+        *made = params_of(heights);
+    return made;
+}
+
+void wakotehu_params_free(wakotehu_params *params) { free(params); }
+
+wakotehu_code wakotehu_params_set(wakotehu_params *params, const char *name, uint32_t height) {
+    if (!params || !name)
+        return WAKOTEHU_NULL;
+    size_t length = strlen(name);
+    return (wakotehu_code)ffi_set_height(params, length ? (const uint8_t *)name : no_bytes, length, height);
+}
+
+wakotehu_code wakotehu_open_with(wakotehu_handle *handle, const wakotehu_params *params, const char *table, size_t length,
+                                 uint64_t *line) {
     uint64_t unasked;
-    if (!handle || !heights || !readable(table, length))
+    if (!handle || !params || !readable(table, length))
         return WAKOTEHU_NULL;
     const uint8_t *bytes = length ? (const uint8_t *)table : no_bytes;
-    return open_place(handle, &(struct opening){CHAIN, heights, bytes, length, line ? line : &unasked, false, NULL});
+    return open_place(handle, &(struct opening){CHAIN, params, bytes, length, line ? line : &unasked, false, NULL});
+}
+
+wakotehu_code wakotehu_open_by_need_with(wakotehu_handle *handle, const wakotehu_params *params) {
+    if (!handle || !params)
+        return WAKOTEHU_NULL;
+    return open_place(handle, &(struct opening){CHAIN, params, no_bytes, 0, NULL, true, NULL});
+}
+
+wakotehu_code wakotehu_open(wakotehu_handle *handle, const wakotehu_heights *heights, const char *table,
+                            size_t length, uint64_t *line) {
+    if (!heights)
+        return WAKOTEHU_NULL;
+    wakotehu_params params = params_of(heights);
+    return wakotehu_open_with(handle, &params, table, length, line);
 }
 
 wakotehu_code wakotehu_open_by_need(wakotehu_handle *handle, const wakotehu_heights *heights) {
-    if (!handle || !heights)
+    if (!heights)
         return WAKOTEHU_NULL;
-    return open_place(handle, &(struct opening){CHAIN, heights, no_bytes, 0, NULL, true, NULL});
+    wakotehu_params params = params_of(heights);
+    return wakotehu_open_by_need_with(handle, &params);
 }
 
 wakotehu_code wakotehu_copy(wakotehu_handle handle, wakotehu_handle *copy) {
@@ -818,12 +852,20 @@ wakotehu_code wakotehu_utxo_learn(wakotehu_utxo utxo, const uint8_t *key, size_t
 
 wakotehu_code wakotehu_connect(wakotehu_utxo utxo, const uint8_t *block, size_t length, const wakotehu_setting *setting,
                                wakotehu_fault *fault) {
+    if (!setting)
+        return WAKOTEHU_NULL;
+    wakotehu_params params = params_of(&setting->heights);
+    return wakotehu_connect_with(utxo, block, length, setting, &params, fault);
+}
+
+wakotehu_code wakotehu_connect_with(wakotehu_utxo utxo, const uint8_t *block, size_t length, const wakotehu_setting *setting,
+                                    const wakotehu_params *params, wakotehu_fault *fault) {
     static const uint32_t no_medians[1];
-    if (!readable(block, length) || !setting || !fault || (!setting->medians && setting->count)
+    if (!readable(block, length) || !setting || !params || !fault || (!setting->medians && setting->count)
         || setting->count > PTRDIFF_MAX / sizeof *setting->medians)
         return WAKOTEHU_NULL;
-    struct setting own = {{setting->count ? setting->medians : no_medians, setting->count}, setting->heights,
-                          setting->height, setting->cutoff};
+    struct setting own = {{setting->count ? setting->medians : no_medians, setting->count}, *params, setting->height,
+                          setting->cutoff};
     wakotehu_code code = enter_set(utxo);
     if (code != WAKOTEHU_OK)
         return code;

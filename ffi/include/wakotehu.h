@@ -74,6 +74,9 @@ typedef struct {
     uint32_t bip34, bip65, bip66, csv;
 } wakotehu_heights;
 
+/* Heights of soft forks by name, also of those that wakotehu_heights has no room for. One that isn't set is never in force. */
+typedef struct wakotehu_params wakotehu_params;
+
 /* The reply to a command. */
 typedef enum {
     WAKOTEHU_ACCEPTED = 1,               /* the block is the active one */
@@ -149,6 +152,19 @@ wakotehu_code wakotehu_open(wakotehu_handle *handle, const wakotehu_heights *hei
  * valid, hands the verdicts in by wakotehu_learn, and makes the same call again. No verdict changes a reply that was
  * given. */
 wakotehu_code wakotehu_open_by_need(wakotehu_handle *handle, const wakotehu_heights *heights);
+
+/* New heights that are these, to be given back by wakotehu_params_free; null where heights is or there is no memory. */
+wakotehu_params *wakotehu_params_new(const wakotehu_heights *heights);
+void wakotehu_params_free(wakotehu_params *params);
+
+/* Sets the height from which a soft fork is in force. Its name: bip34, bip65 or cltv, bip66 or dersig, csv, nulldummy or
+ * bip147; WAKOTEHU_NONE where there is none of this name. */
+wakotehu_code wakotehu_params_set(wakotehu_params *params, const char *name, uint32_t height);
+
+/* wakotehu_open and wakotehu_open_by_need under these heights, which may be given back behind the call. */
+wakotehu_code wakotehu_open_with(wakotehu_handle *handle, const wakotehu_params *params, const char *table, size_t length,
+                                 uint64_t *line);
+wakotehu_code wakotehu_open_by_need_with(wakotehu_handle *handle, const wakotehu_params *params);
 
 /* Opens a chainstate that is the same as another one, and writes its handle: blocks are shared, coins and verdicts on
  * signatures are copied. From then on each goes its own way. It has to be given back by wakotehu_close too. */
@@ -309,6 +325,10 @@ wakotehu_code wakotehu_utxo_coins(wakotehu_utxo utxo, wakotehu_coin_call call, v
 wakotehu_code wakotehu_connect(wakotehu_utxo utxo, const uint8_t *block, size_t length, const wakotehu_setting *setting,
                                wakotehu_fault *fault);
 
+/* The same under these heights, and not those of the setting. */
+wakotehu_code wakotehu_connect_with(wakotehu_utxo utxo, const uint8_t *block, size_t length, const wakotehu_setting *setting,
+                                    const wakotehu_params *params, wakotehu_fault *fault);
+
 /* Takes back the block that was connected last (DisconnectBlock): the set has the coins from before it. WAKOTEHU_NONE where
  * no block was connected, where it was taken back already, and where a coin was put in since. */
 wakotehu_code wakotehu_disconnect(wakotehu_utxo utxo);
@@ -468,6 +488,10 @@ wakotehu_code wakotehu_block_transactions(const uint8_t *bytes, size_t length, w
  * parent's median time past, at a moment. */
 wakotehu_code wakotehu_block_place(const uint8_t *bytes, size_t length, uint32_t height, uint32_t median, uint64_t now,
                                    const wakotehu_heights *heights, uint32_t *reason);
+
+/* The same under these heights. */
+wakotehu_code wakotehu_block_place_with(const uint8_t *bytes, size_t length, uint32_t height, uint32_t median, uint64_t now,
+                                        const wakotehu_params *params, uint32_t *reason);
 
 /* How many bytes the block has of the record at the front of a blk file's bytes, behind the record's first 8.
  * WAKOTEHU_NONE at the end: zero bytes alone. */

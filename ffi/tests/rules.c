@@ -764,6 +764,38 @@ static void hostile_counts(void) {
     EXPECT(wakotehu_read_number(spent, 3, UINT64_MAX, &it.value) == WAKOTEHU_OK);
 }
 
+/* Heights by name: each of the struct's, by its names, and one that it has no room for. An unknown name changes nothing. */
+static void heights_by_name(void) {
+    static const char *const names[] = {"bip34", "bip65", "cltv", "bip66", "dersig", "csv", "nulldummy", "bip147"};
+    static const char *const unknown[] = {"", "bip3", "bip344", "BIP34", "taproot", "nulldummy ", "\xff"};
+    const uint32_t late = 4294967295, now = 1296688602;
+    uint32_t before = 7, after = 7;
+    wakotehu_handle handle;
+    long had = live;
+    left = 0;
+    EXPECT(wakotehu_params_new(&regtest) == NULL);
+    left = -1;
+    wakotehu_params *params = wakotehu_params_new(&regtest);
+    EXPECT(params && !wakotehu_params_new(NULL));
+    for (size_t n = 0; n < sizeof unknown / sizeof *unknown; n++)
+        EXPECT(wakotehu_params_set(params, unknown[n], late) == WAKOTEHU_NONE);
+    EXPECT(wakotehu_params_set(NULL, "csv", 1) == WAKOTEHU_NULL && wakotehu_params_set(params, NULL, 1) == WAKOTEHU_NULL);
+    /* b1 isn't a block for height 2, which its coinbase would have to say. */
+    EXPECT(wakotehu_block_place(b1, sizeof b1, 2, now, now + 1, &regtest, &before) == WAKOTEHU_OK && before != 0);
+    EXPECT(wakotehu_block_place_with(b1, sizeof b1, 2, now, now + 1, params, &after) == WAKOTEHU_OK && after == before);
+    for (size_t n = 0; n < sizeof names / sizeof *names; n++)
+        EXPECT(wakotehu_params_set(params, names[n], late) == WAKOTEHU_OK);
+    EXPECT(wakotehu_block_place_with(b1, sizeof b1, 2, now, now + 1, params, &after) == WAKOTEHU_OK && after == 0);
+    EXPECT(wakotehu_block_place_with(b1, sizeof b1, 2, now, now + 1, NULL, &after) == WAKOTEHU_NULL);
+    EXPECT(wakotehu_open_with(&handle, params, NULL, 0, NULL) == WAKOTEHU_OK && wakotehu_close(handle) == WAKOTEHU_OK);
+    EXPECT(wakotehu_open_by_need_with(&handle, params) == WAKOTEHU_OK);
+    wakotehu_params_free(params);
+    wakotehu_params_free(NULL);
+    EXPECT(wakotehu_close(handle) == WAKOTEHU_OK);
+    EXPECT(wakotehu_open_with(&handle, NULL, NULL, 0, NULL) == WAKOTEHU_NULL);
+    EXPECT(wakotehu_open_by_need_with(&handle, NULL) == WAKOTEHU_NULL && live == had);
+}
+
 int main(int count, char **words) {
     long rounds = count > 1 ? atol(words[1]) : 1000000;
     uint32_t yes = 7;
@@ -781,6 +813,7 @@ int main(int count, char **words) {
     refusals();
     null_and_hostile_lengths();
     hostile_counts();
+    heights_by_name();
     for (long n = 0; n < rounds; n++)
         EXPECT(wakotehu_verify(tx, TX, 0, spent, 3, &flags, table, TABLE, NULL, &yes) == WAKOTEHU_OK && yes == 1);
     EXPECT(live == before);

@@ -17,7 +17,7 @@ submit f1
 each c 1 100
 submit d
 """
-REFUSED = "submit d = rejected blk-bad-inputs A:0 @102"
+REFUSED = "submit d = blk-bad-inputs 1:0 @102"
 ACCEPTED = "submit d = accepted @102"
 
 
@@ -50,7 +50,7 @@ class NamedHeights(ProgramTest):
         ):
             with self.subTest(word):
                 played = self.play(["run", "--scenario", "-", "--heights", word], SCENARIO)
-                self.assertEqual(played.status, 2)
+                self.assertEqual(played.status, 1)
                 self.assertTrue(played.err.startswith("regchain: heights\n"), played.err)
 
     def test_a_saved_run_keeps_it(self) -> None:

@@ -2,6 +2,7 @@ pub mod ToldPart
 pub mod AsBox
 pub mod AsTxBox
 pub mod AsUtxoBox
+pub mod DeploymentNames
 pub mod Digits
 pub mod Fronts
 pub mod Halves

@@ -14,7 +14,8 @@ use Rattle.coins.specs.declared.coin.Coin.{Coin}
 use Rattle.coins.specs.Next.{IsNext}
 use Rattle.activate.specs.CoreState.{IsBlockOf}
 use Rattle.rules.specs.declared.params.Params.{Params}
-use Rattle.rules.specs.Params.{of_heights}
+use Rattle.rules.specs.declared.deployment.Deployment.{Deployment}
+use Rattle.rules.specs.Params.{with_height}
 use Rattle.tree.specs.declared.tip.Tip.{Tip}
 use Rattle.model.specs.declared.command.Command.{Command}
 use Rattle.model.specs.declared.reply.Reply.{Reply}
@@ -27,6 +28,7 @@ use Rattle.model.specs.Replay.{coins}
 use Rattle.model.specs.Settle.{active, best, tips}
 use Rattle.ffi.specs.declared.answers.Answer.{Answer}
 use Rattle.ffi.specs.declared.answers.Heights.{Heights}
+use Rattle.ffi.specs.declared.answers.MaybeHeight.{MaybeHeight}
 use Rattle.ffi.specs.declared.answers.Name.{Name}
 use Rattle.ffi.specs.declared.answers.Place.{Place}
 use Rattle.ffi.specs.declared.answers.ShownCoin.{ShownCoin}
@@ -36,8 +38,16 @@ use Rattle.ffi.specs.Room.{IsFilled}
 use Rattle.ffi.specs.Known.{Asked, IsLineTold}
 use Rattle.ffi.specs.SessionState.{IsLearntBy, IsNoStep, KeepsRules, SessionState, known_of, new_session, rules_of, rules_under, tree_of}
 
+abbrev pub height_in : MaybeHeight → Option ℕ
+height_in m = if m.is_some == 0 then None else Some m.height
+
 abbrev pub params_of : Heights → Params
-params_of h = of_heights h.bip34 h.bip65 h.bip66 h.csv
+params_of h = record { bip34 = h.bip34; bip65 = h.bip65; bip66 = h.bip66; csv = h.csv; nulldummy = height_in h.nulldummy }
+
+-- the height of a soft fork is set, if there is one of the name: 4 where there isn't
+abbrev pub IsHeightSet : Option Deployment → ℕ → Params → Params → ℕ → Type 0
+IsHeightSet None height before after result = (result ≡ 4) × (after ≡ before)
+IsHeightSet (Some deployment) height before after result = (result ≡ 0) × (after ≡ with_height before deployment height)
 
 abbrev pub id_of : Name → Id
 id_of n = record { 0 = n.bytes }

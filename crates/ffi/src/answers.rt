@@ -1,7 +1,7 @@
 //! What C is answered.
 
 ghost use Rattle.std.specs.Prelude.{◌≡◌};
-ghost use Rattle.ffi.specs.Answers.{params_of};
+ghost use Rattle.ffi.specs.Answers.{height_in, params_of};
 ghost use Rattle.ffi.specs.Codes.{input_number, reason_number, reply_number, status_number, submit_number, transaction_number};
 
 use model::{MarkReply, Reply, SubmitReply};
@@ -48,7 +48,38 @@ pub struct Name {
     pub bytes: [u8; 32],
 }
 
-/// The heights from which soft forks are in force.
+/// A height, where `is_some` isn't 0.
+#[repr(C)]
+#[derive(Clone, Copy, Drop)]
+pub struct MaybeHeight {
+    pub is_some: u32,
+    pub height: u32,
+}
+
+impl MaybeHeight {
+    fn of(height: Option<u32>) -> MaybeHeight
+        ensures { height_in result ≡ height }
+    {
+        match height {
+            Some(height) => MaybeHeight { is_some: 1, height },
+            None => MaybeHeight {
+                is_some: 0,
+                height: 0,
+            },
+        }
+    }
+
+    fn get(&self) -> Option<u32>
+        ensures { result ≡ height_in self.now }
+    {
+        if self.is_some == 0 {
+            return None;
+        }
+        Some(self.height)
+    }
+}
+
+/// The heights from which soft forks are in force. The four of the published struct come first.
 #[repr(C)]
 #[derive(Clone, Copy, Drop)]
 pub struct Heights {
@@ -56,14 +87,32 @@ pub struct Heights {
     pub bip65: u32,
     pub bip66: u32,
     pub csv: u32,
+    pub nulldummy: MaybeHeight,
 }
 
 impl Heights {
-    /// These four; what came later is never in force.
+    pub(crate) fn of(params: &Params) -> Heights
+        ensures { params_of result ≡ params.now }
+    {
+        Heights {
+            bip34: params.bip34,
+            bip65: params.bip65,
+            bip66: params.bip66,
+            csv: params.csv,
+            nulldummy: MaybeHeight::of(params.nulldummy),
+        }
+    }
+
     pub(crate) fn params(&self) -> Params
         ensures { result ≡ params_of self.now }
     {
-        Params::of_heights(self.bip34, self.bip65, self.bip66, self.csv)
+        Params {
+            bip34: self.bip34,
+            bip65: self.bip65,
+            bip66: self.bip66,
+            csv: self.csv,
+            nulldummy: self.nulldummy.get(),
+        }
     }
 }
 

@@ -6,6 +6,7 @@ mod bits;
 mod block_rules;
 mod blocks;
 mod box_address;
+mod deployments;
 mod division;
 mod evaluation;
 mod exports;
@@ -40,7 +41,7 @@ mod utxo_slot;
 mod work;
 
 pub use answers::{
-    Answer, Heights, Made, Name, Place, ShownCoin, ShownHeader, ShownSpent, ShownTip,
+    Answer, Heights, Made, MaybeHeight, Name, Place, ShownCoin, ShownHeader, ShownSpent, ShownTip,
 };
 pub use kept::Kept;
 pub use kept_tx::KeptTx;

@@ -169,9 +169,3 @@ def seconds(value: object, name: str) -> Optional[float]:
     if not 0 < value <= 1e8:
         raise ValueError(f"{name} must be above 0 and at most 100,000,000 seconds")
     return float(value)
-
-
-def heights(value: object, name: str = "heights") -> Tuple[int, int, int, int]:
-    """The four heights from which the soft forks of BIPs 34, 65, 66 and 68 are in force."""
-    bip34, bip65, bip66, csv = (number(height, name) for height in several(value, name, 4))
-    return bip34, bip65, bip66, csv

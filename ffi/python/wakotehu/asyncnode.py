@@ -11,6 +11,7 @@ from weakref import WeakSet, ref
 from . import arguments, errors
 from .arguments import Path
 from .chainstate import BlockHeader, Coin, Moved, Reply, Tip
+from .deployments import GivenHeights
 from .served import (
     BEST, FINISH, INFO, KEPT, MOST, NOTE, SAVE, TIMEOUT, TIPS, UNDER_WAY, Call, Entry, Info, Opening,
     Stamped, UnspentOutput, Wanted, ancestor_of, block_of, checked, coins_above, died, dry_run, entries, fork_of, hash_at,
@@ -422,7 +423,7 @@ class AsyncNode:
     """
 
     def __init__(
-        self, seats: int = 4, workers: int = 2, heights: Optional[Sequence[int]] = None,
+        self, seats: int = 4, workers: int = 2, heights: Optional[GivenHeights] = None,
         table: Optional[Union[str, bytes]] = None, program: Optional[Path] = None, *,
         blk: Optional[Path] = None, load: Optional[Path] = None, save: Optional[Path] = None,
         datadir: Optional[Path] = None, sync: bool = True, timeout: Optional[float] = TIMEOUT,

@@ -9,6 +9,7 @@ from .chainstate import (
     REGTEST, BlockHeader, Chainstate, Coin, Moved, Reply, Tip, mark_of, moment_of, read_heights, reply_of,
 )  # fmt: skip
 from .consensus import Triple
+from .deployments import GivenHeights
 from .encoding import EncodingError, Spelled, block_at_front, double_sha
 from .index import Index, Unspent, Walks
 from .library import Answer
@@ -52,7 +53,7 @@ class Bench(Walks):
     """
 
     def __init__(
-        self, heights: Sequence[int] = REGTEST, table: Union[str, bytes] = b"", threads: Optional[int] = None
+        self, heights: GivenHeights = REGTEST, table: Union[str, bytes] = b"", threads: Optional[int] = None
     ) -> None:
         self.heights = read_heights(heights)
         self._journal: List[Entry] = []

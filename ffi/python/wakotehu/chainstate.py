@@ -10,14 +10,15 @@ from typing import Any, Iterator, List, NamedTuple, NoReturn, Optional, Sequence
 from . import arguments, errors
 from .arguments import id_of, number, octets
 from .consensus import Triple, triple_of
-from .library import Answer, CoinCall, Heights, library
+from .deployments import GivenHeights, SoftForks, soft_forks
+from .library import Answer, CoinCall, library, params_of
 from .library import Coin as _Coin
 from .library import Header as _Header
 from .library import SpentSize as _SpentSize
 from .library import Tip as _Tip
 
 #: The heights of regtest: all soft forks from height 1 on.
-REGTEST = (1, 1, 1, 1)
+REGTEST = SoftForks((1, 1, 1, 1))
 
 _DIGITS = re.compile("[0-9A-Fa-f]{64}")
 _MARKS = ("invalidate", "reconsider", "precious")
@@ -231,7 +232,7 @@ class _Held:
 class Chainstate(_Held):
     """A chainstate, as the proved library keeps it. It begins with the genesis block alone.
 
-    heights: from which heights BIPs 34, 65, 66 and 68 with 112 and 113 are in force.
+    heights: from which heights BIPs 34, 65, 66 and 68 with 112 and 113 are in force; or by name, as {"nulldummy": 0} (BIP 147).
     table: the valid signatures, as lines of a key, a signature without its hash type and a digest, in hexadecimal and
         parted by spaces. No other signature is valid.
     by_need: no table says which are valid. A command whose scripts ask for signatures of which nothing is known raises
@@ -245,20 +246,19 @@ class Chainstate(_Held):
     """
 
     def __init__(
-        self, heights: Sequence[int] = REGTEST, table: Union[str, bytes] = b"", by_need: bool = False
+        self, heights: GivenHeights = REGTEST, table: Union[str, bytes] = b"", by_need: bool = False
     ) -> None:
         self._handle = 0
-        rules, text = Heights(*read_heights(heights)), arguments.lines(table, "table")
+        rules, text = read_heights(heights), arguments.lines(table, "table")
         if arguments.flag(by_need, "by_need") and text:
             raise ValueError("table must be empty where by_need is True")
         self._library = library()
         handle, line = ctypes.c_uint64(), ctypes.c_uint64()
-        if by_need:
-            code = self._library.wakotehu_open_by_need(ctypes.byref(handle), ctypes.byref(rules))
-        else:
-            code = self._library.wakotehu_open(
-                ctypes.byref(handle), ctypes.byref(rules), text, len(text), ctypes.byref(line)
-            )
+        with params_of(rules) as params:
+            if by_need:
+                code = self._library.wakotehu_open_by_need_with(ctypes.byref(handle), params)
+            else:
+                code = self._library.wakotehu_open_with(ctypes.byref(handle), params, text, len(text), ctypes.byref(line))
         if code == 3:
             raise errors.BadTable(line.value)
         self._check(code)
@@ -477,9 +477,9 @@ class _Walk:
         return 1 if self._stopped or self.error is not None else 0
 
 
-def read_heights(heights: Sequence[int]) -> Tuple[int, int, int, int]:
-    """Four heights of 32 bits, of BIPs 34, 65, 66 and 68, or ValueError."""
-    return arguments.heights(heights)
+def read_heights(heights: GivenHeights) -> SoftForks:
+    """Four heights of 32 bits, of BIPs 34, 65, 66 and 68, or heights of soft forks by name, or ValueError."""
+    return soft_forks(heights)
 
 
 def moment_of(now: Optional[int]) -> int:

@@ -7,9 +7,10 @@ from . import arguments, errors
 from .arguments import id_of, number, octets
 from .chainstate import REGTEST, Coin, _Held, read_heights
 from .consensus import FAULTS, NAMED, ParsedTransaction, Refused, ScriptError, Triple
+from .deployments import GivenHeights
 from .library import Coin as _Coin
 from .library import Fault as _Fault
-from .library import Heights, Setting, library
+from .library import Heights, Setting, library, params_of
 
 
 class Fault(NamedTuple):
@@ -56,7 +57,7 @@ class CoinSet(_Held):
         self._check(self._library.wakotehu_utxo_put(self._handle, *at, row, script))
 
     def connect(
-        self, block: bytes, height: int, cutoff: int, medians: Sequence[int] = (), heights: Sequence[int] = REGTEST
+        self, block: bytes, height: int, cutoff: int, medians: Sequence[int] = (), heights: GivenHeights = REGTEST
     ) -> Optional[Fault]:
         """Connects a block: the first rule that it breaks by itself or over the coins, or None, and then the coins are those
         after it. Bytes that are no block raise `Refused`.
@@ -68,9 +69,10 @@ class CoinSet(_Held):
         """
         block, times = octets(block, "block"), [number(it, "medians") for it in arguments.sequence(medians, "medians")]
         rows = (ctypes.c_uint32 * len(times))(*times)
-        setting = Setting(rows, len(times), Heights(*read_heights(heights)), number(height, "height"), number(cutoff, "cutoff"))
-        fault = _Fault()
-        code = self._library.wakotehu_connect(self._handle, block, len(block), ctypes.byref(setting), ctypes.byref(fault))
+        forks, fault = read_heights(heights), _Fault()
+        setting = Setting(rows, len(times), Heights(*forks), number(height, "height"), number(cutoff, "cutoff"))
+        with params_of(forks) as params:
+            code = self._library.wakotehu_connect_with(self._handle, block, len(block), setting, params, fault)
         if code == 31:
             lines = self._want_lines()
             raise errors.Wants(Triple.of_lines(lines), lines)

@@ -6,7 +6,7 @@ them into text and back. What can't be read raises `Refused`, whose `fault` name
 
 import ctypes
 from binascii import unhexlify
-from ctypes import POINTER, c_char_p, c_int, c_int64, c_size_t, c_uint8, c_uint32, c_uint64
+from ctypes import POINTER, c_char_p, c_int, c_int64, c_size_t, c_uint8, c_uint32, c_uint64, c_void_p
 from dataclasses import dataclass
 from enum import Enum
 from itertools import accumulate
@@ -15,9 +15,10 @@ from typing import Any, Callable, Iterable, Iterator, List, NamedTuple, NoReturn
 
 from . import arguments, spelling
 from .arguments import id_of, number, octets, signed
+from .deployments import GivenHeights, soft_forks
 from .encoding import Merkle, Target
 from .errors import REASONS, BadTable, Busy, Closed, Error, TooMany
-from .library import Heights, library
+from .library import library, params_of
 
 #: Why bytes are refused, by the numbers of the codes.
 FAULTS = {
@@ -163,7 +164,7 @@ _CALLS = {
     "work": [c_uint32, c_char_p],
     "block_size": _BYTES + [POINTER(c_uint64)],
     "block_transactions": _BYTES + [POINTER(_Made), c_size_t, POINTER(c_uint64)],
-    "block_place": _BYTES + [c_uint32, c_uint32, c_uint64, POINTER(Heights), POINTER(c_uint32)],
+    "block_place_with": _BYTES + [c_uint32, c_uint32, c_uint64, c_void_p, POINTER(c_uint32)],
     "record": _BYTES + [POINTER(c_uint64)],
     "meets_target": [c_char_p] + _YES,
     "median": [POINTER(c_uint32), c_size_t, POINTER(c_uint32)],
@@ -476,12 +477,13 @@ def block_ids(data: bytes) -> List[bytes]:
 
 
 def block_place(
-    data: bytes, height: int, median: int, now: int, heights: Sequence[int] = (1, 1, 1, 1)
+    data: bytes, height: int, median: int, now: int, heights: GivenHeights = (1, 1, 1, 1)
 ) -> str:
     """The first rule that a block breaks by its place, "" for none: at a height, with its parent's median time past, at
     a moment, where the soft forks of BIPs 34, 65, 66 and 68 are in force from these heights on."""
     reason, place = c_uint32(), (number(height, "height"), number(median, "median"), number(now, "now", 64))
-    _call("block_place", *_sized(data), *place, Heights(*arguments.heights(heights)), reason)
+    with params_of(soft_forks(heights)) as params:
+        _call("block_place_with", *_sized(data), *place, params, reason)
     return REASONS[reason.value]
 
 

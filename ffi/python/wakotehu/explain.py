@@ -12,10 +12,10 @@ from itertools import takewhile
 from typing import Dict, Iterator, List, NamedTuple, Optional, Sequence, Set
 
 from . import consensus
-from .chainstate import read_heights
 from .coinset import CoinSet, Fault
 from .consensus import ScriptError, Triple
 from .encoding import GENESIS, double_sha, read_block, read_header, write_transaction
+from .deployments import SoftForks, read_word
 from .errors import Error, Wants
 from .history import LOG, VERDICTS, regular, steps_of
 
@@ -65,7 +65,7 @@ class SavedRun:
         self.verdicts = {line: is_valid for name, is_valid in TABLES.items() for line in self._table(name)}
         is_log = os.path.exists(os.path.join(folder, LOG))
         self.has_table = not self._exists("invalid.txt") and (not is_log or self._exists("table.txt"))
-        self.heights = read_heights([int(it) for it in (self._read("heights.txt") or b"1,1,1,1").decode("ascii").split(",")])
+        self.heights = read_word((self._read("heights.txt") or b"1,1,1,1").decode("ascii").strip())
         self.lines = list(self._log() if is_log else self._journal())
 
     def _path(self, name: str) -> str:
@@ -133,10 +133,13 @@ def branch_of(block: bytes, known: Dict[bytes, bytes]) -> List[bytes]:
         found.append(known[parent])
 
 
-def flags_at(height: int, heights: Sequence[int]) -> Set[str]:
+#: Rules of scripts by the soft forks that brought them.
+FLAGS = {"CLTV": "bip65", "DERSIG": "bip66", "CSV": "csv", "NULLDUMMY": "nulldummy"}
+
+
+def flags_at(height: int, heights: SoftForks) -> Set[str]:
     """The rules for scripts that are in force in a block of this height."""
-    _, bip65, bip66, csv = heights
-    first = {"P2SH": 0, "CLTV": bip65, "DERSIG": bip66, "CSV": csv}
+    first = {"P2SH": 0, **{flag: heights.height(name) for flag, name in FLAGS.items()}}
     return {name for name, begins in first.items() if height >= begins}
 
 

@@ -4,9 +4,11 @@ import ctypes
 import ctypes.util
 import os
 import subprocess
+from contextlib import contextmanager
 from ctypes import CFUNCTYPE, POINTER, c_char_p, c_int, c_int64, c_size_t, c_uint8, c_uint32, c_uint64, c_void_p
 from typing import Iterator, Optional
 
+from .deployments import SoftForks
 from .errors import LibraryMissing
 from .processor import chosen, home
 
@@ -48,8 +50,9 @@ class Fault(ctypes.Structure):
 CoinCall = CFUNCTYPE(c_int, c_void_p, POINTER(c_uint8), c_uint32, POINTER(Coin), POINTER(c_uint8))
 
 _CALLS = {
-    "open": [POINTER(c_uint64), POINTER(Heights), c_char_p, c_size_t, POINTER(c_uint64)],
-    "open_by_need": [POINTER(c_uint64), POINTER(Heights)],
+    "params_set": [c_void_p, c_char_p, c_uint32],
+    "open_with": [POINTER(c_uint64), c_void_p, c_char_p, c_size_t, POINTER(c_uint64)],
+    "open_by_need_with": [POINTER(c_uint64), c_void_p],
     "want_lines": [c_uint64, c_char_p, c_size_t, POINTER(c_size_t)],
     "learn": [c_uint64, c_char_p, c_size_t, c_char_p, c_size_t, c_char_p, c_int],
     "close": [c_uint64],
@@ -78,7 +81,7 @@ _CALLS = {
     "utxo_spent": [c_uint64, POINTER(Coin), c_size_t, c_char_p, c_size_t, POINTER(SpentSize)],
     "utxo_want_lines": [c_uint64, c_char_p, c_size_t, POINTER(c_size_t)],
     "utxo_learn": [c_uint64, c_char_p, c_size_t, c_char_p, c_size_t, c_char_p, c_int],
-    "connect": [c_uint64, c_char_p, c_size_t, POINTER(Setting), POINTER(Fault)],
+    "connect_with": [c_uint64, c_char_p, c_size_t, POINTER(Setting), c_void_p, POINTER(Fault)],
     "disconnect": [c_uint64],
     "check_tx_inputs": [c_uint64, c_char_p, c_size_t, c_uint32, POINTER(c_uint32), POINTER(c_int64)],
     "check_transaction_inputs": [c_uint64, c_char_p, c_size_t, c_uint32, POINTER(c_uint32), POINTER(c_int64)],
@@ -127,9 +130,27 @@ def library() -> ctypes.CDLL:
         for name in ("reason", "reply", "code"):
             call = getattr(loaded, f"wakotehu_{name}_text")
             call.argtypes, call.restype = [c_uint32], c_char_p
+        loaded.wakotehu_params_new.argtypes, loaded.wakotehu_params_new.restype = [POINTER(Heights)], c_void_p
+        loaded.wakotehu_params_free.argtypes, loaded.wakotehu_params_free.restype = [c_void_p], None
         _loaded = loaded
         return loaded
     raise LibraryMissing("libwakotehu.so isn't found: set WAKOTEHU_LIBRARY, or run ./install")
+
+
+@contextmanager
+def params_of(heights: SoftForks) -> Iterator[int]:
+    """The heights as the library takes them, for calls within; a ValueError where it knows no soft fork of a name."""
+    loaded = library()
+    made = loaded.wakotehu_params_new(ctypes.byref(Heights(*heights)))
+    if not made:
+        raise MemoryError
+    try:
+        for name, height in heights.further.items():
+            if loaded.wakotehu_params_set(made, name.encode(), height):
+                raise ValueError(f"heights: no soft fork is named {name[:100]!r}")
+        yield made
+    finally:
+        loaded.wakotehu_params_free(made)
 
 
 def secp256k1_library() -> Optional[ctypes.CDLL]:

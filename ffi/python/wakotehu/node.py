@@ -13,6 +13,7 @@ from . import arguments
 from .arguments import Path
 from .asyncnode import AsyncNode, AsyncSeat
 from .chainstate import BlockHeader, Coin, Moved, Reply, Tip
+from .deployments import GivenHeights
 from .pipe import Pipe
 from .served import (
     BEST, FINISH, INFO, NOTE, SAVE, TIMEOUT, TIPS, UNDER_WAY, Call, Entry, Info, Opening, Stamped,
@@ -237,7 +238,7 @@ class Node:
     """
 
     def __init__(
-        self, seats: int = 4, workers: int = 2, heights: Optional[Sequence[int]] = None,
+        self, seats: int = 4, workers: int = 2, heights: Optional[GivenHeights] = None,
         table: Optional[Union[str, bytes]] = None, program: Optional[Path] = None, *,
         blk: Optional[Path] = None, load: Optional[Path] = None, save: Optional[Path] = None,
         datadir: Optional[Path] = None, sync: bool = True, timeout: Optional[float] = TIMEOUT,

@@ -12,6 +12,7 @@ from . import ahead, errors
 from .arguments import Path, id_of, lines, octets, path
 from .chainstate import Coin, Reply, Tip
 from .consensus import Table, Triple
+from .deployments import GivenHeights
 from .encoding import EncodingError, Spelled, block_at_front, double_sha
 from .history import LOG, VERDICTS, past_of
 from .index import Index, Unspent, Walks
@@ -58,7 +59,7 @@ class NodeBench(Walks):
     """
 
     def __init__(
-        self, heights: Optional[Sequence[int]] = None, table: Union[str, bytes] = b"", seats: int = SEATS,
+        self, heights: Optional[GivenHeights] = None, table: Union[str, bytes] = b"", seats: int = SEATS,
         workers: int = 2, program: Optional[str] = None, verify: Optional[Verify] = None,
         datadir: Optional[Path] = None, sync: bool = True,
     ) -> None:  # fmt: skip

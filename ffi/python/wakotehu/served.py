@@ -14,6 +14,7 @@ from typing import (
 from . import arguments, errors
 from .arguments import Path, id_of, number, octets
 from .chainstate import REGTEST, BlockHeader, Coin, Moved, Reply, Tip, mark_of, moment_of, read_heights, show
+from .deployments import GivenHeights, SoftForks, read_members
 from .processor import chosen
 from .signatures import Verify
 
@@ -82,7 +83,7 @@ class Info(NamedTuple):
     version: str
     seats: int
     workers: int
-    heights: Tuple[int, int, int, int]
+    heights: SoftForks
     loaded: int
 
 
@@ -201,10 +202,8 @@ def _read_entries(result: Dict[str, Any]) -> Stamped[List[Entry]]:
 
 
 def _read_info(result: Dict[str, Any]) -> Info:
-    heights = result["heights"]
     return Info(
-        result["program"], result["version"], result["seats"], result["workers"],
-        (heights["bip34"], heights["bip65"], heights["bip66"], heights["csv"]), result["loaded"],
+        result["program"], result["version"], result["seats"], result["workers"], read_members(result["heights"]), result["loaded"],
     )  # fmt: skip
 
 
@@ -456,7 +455,7 @@ class Opening:
     """What a node is opened by. All of it is checked before a process is started."""
 
     def __init__(
-        self, seats: int, workers: int, heights: Optional[Sequence[int]], table: Optional[Union[str, bytes]],
+        self, seats: int, workers: int, heights: Optional[GivenHeights], table: Optional[Union[str, bytes]],
         program: Optional[Path], blk: Optional[Path], load: Optional[Path], save: Optional[Path],
         datadir: Optional[Path], sync: bool, timeout: Optional[float], verify: Optional[Verify],
         history_memory: Optional[int] = None,
@@ -473,7 +472,7 @@ class Opening:
             raise ValueError("sync must be True where datadir is None")
         if heights is not None or (load is None and datadir is None):
             chosen = read_heights(REGTEST if heights is None else heights)
-            self.words += ["--heights", ",".join(map(str, chosen))]
+            self.words += ["--heights", chosen.word]
         if not sync:
             self.words += ["--no-sync"]
         if history_memory is not None:

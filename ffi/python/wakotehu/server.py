@@ -13,9 +13,9 @@ import os
 import sys
 import threading
 import time
-from typing import Callable, Iterator, List, Optional, Sequence, Tuple
+from typing import Callable, Dict, Iterator, List, Optional, Sequence, Tuple
 
-from .chainstate import REGTEST
+from .deployments import soft_forks
 from .errors import Error
 from .nodebench import SEATS, NodeBench
 from .replicabench import ReplicaBench
@@ -46,8 +46,8 @@ MODULES = (
 MEMPOOL = "mempool.dat"
 #: M_MMAP_THRESHOLD of glibc's malloc.h.
 _MMAP_THRESHOLD = -3
-#: Names of soft forks for -testactivationheight, by their places in the heights; csv has BIPs 68, 112 and 113.
-FORKS = {"bip34": 0, "cltv": 1, "bip65": 1, "dersig": 2, "bip66": 2, "csv": 3}
+#: Names of soft forks for -testactivationheight; csv has BIPs 68, 112 and 113, nulldummy BIP 147.
+FORKS = ("bip34", "cltv", "bip65", "dersig", "bip66", "csv", "nulldummy")
 
 
 #: How often it is looked whether the server ends, in seconds.
@@ -157,7 +157,7 @@ def _parser() -> _Parser:
     add("--no-fsync", dest="fsync", action="store_false", help="doesn't wait for the disk: a crash of the machine may lose commands")
     add("--rpcport", "--port", dest="rpcport", metavar="N", help="18443 by default; 0 is any that is free")
     add("--rpcbind", action="append", default=[], metavar="HOST", help="127.0.0.1, ::1 or localhost; given again for more")
-    add("--testactivationheight", action="append", default=[], metavar="FORK@N", help="bip34, cltv, dersig or csv")
+    add("--testactivationheight", action="append", default=[], metavar="FORK@N", help="bip34, cltv, dersig, csv or nulldummy")
     add("--conf", metavar="F", help="a file as bitcoin.conf, from the folder of -datadir on; bitcoin.conf there by default")
     add("--rpcuser", metavar="NAME", help="who is let in by WAKOTEHU_RPCPASSWORD, or by the password in the file of -conf")
     add("--rpcpassword", help=argparse.SUPPRESS)
@@ -200,13 +200,13 @@ def _given(words: Sequence[str]) -> argparse.Namespace:
     for host in given.rpcbind:
         if host.strip("[]") not in LOOPBACK:
             parser.error(f"-rpcbind={host} isn't an address of the loopback: the server answers this machine alone")
-    heights = list(REGTEST)
+    heights: Dict[str, int] = {}
     for it in given.testactivationheight:
         fork, _, number = it.partition("@")
         if fork not in FORKS:
-            parser.error(f"-testactivationheight={it}: forks are bip34, cltv (bip65), dersig (bip66) and csv")
-        heights[FORKS[fork]] = _number(parser, number, "-testactivationheight", 2**32 - 1)
-    given.heights = tuple(heights) if given.testactivationheight else None
+            parser.error(f"-testactivationheight={it}: forks are bip34, cltv (bip65), dersig (bip66), csv and nulldummy")
+        heights[fork] = _number(parser, number, "-testactivationheight", 2**32 - 1)
+    given.heights = soft_forks(heights) if heights else None
     given.maxmempool = _number(parser, "300" if given.maxmempool is None else given.maxmempool, "-maxmempool", 100_000)
     given.keypool = _number(parser, str(KEYPOOL) if given.keypool is None else given.keypool, "-keypool", 1_000_000)
     fallback = FALLBACK if given.fallbackfee is None else satoshis(given.fallbackfee)

@@ -44,7 +44,7 @@ class OldFiles:
             saved = tuple(int(word) for word in found.decode().strip().split(","))
         except ValueError:
             raise BadFolder(f"{HEIGHTS} can't be read")
-        if given is not None and tuple(given) != saved:
+        if given is not None and given != saved:
             raise BadFolder(f"{self.path} was made with the heights {saved}, not {tuple(given)}")
         return saved
 
