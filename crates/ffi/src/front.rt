@@ -92,7 +92,7 @@ fn each_tx(alloc: Global, bytes: &mut Cursor, count: u64) -> Result<Txs, TxFault
     Ok(Txs::from_vec(items))
 }
 
-#[tactic(auto, unfolding(block::specs::computed::Reader::block_at))]
+#[tactic(auto, unfolding(block::specs::computed::Reader::block_by_at))]
 fn front(alloc: Global, bytes: &mut Cursor) -> Result<Block, TxFault>
     ensures { Gives wire_fault_of result bytes.new (block_at bytes.old) }
 {
