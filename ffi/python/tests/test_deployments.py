@@ -5,11 +5,12 @@ import unittest
 from typing import Any, List
 
 from blocks import NOW, Maker, block_id, spend
-from wakotehu import Bench, Chainstate, CoinSet, Node, Rejected
+from wakotehu import Bench, Chainstate, CoinSet, Node, Pool, Rejected
 from wakotehu.chainstate import REGTEST, read_heights
 from wakotehu.consensus import block_place
 from wakotehu.deployments import SoftForks, read_word
-from wakotehu.errors import Error
+from wakotehu.encoding import block_at_front, write_transaction
+from wakotehu.errors import Error, NotAccepted
 from wakotehu.nodebench import NodeBench
 
 #: CHECKMULTISIG with no signature of no key, which takes one element more; the spend puts a 1 there, which BIP 147 refuses.
@@ -21,9 +22,7 @@ def blocks() -> List[bytes]:
     maker = Maker(CODE)
     made = maker.chain(101)
     first = maker.coinbases[block_id(made[0])]
-    from wakotehu.encoding import transaction_id
-
-    tx = spend(first.id, 0, first.outputs[0].value, DUMMY)
+    tx = spend(block_at_front(made[0]).ids[0], 0, first.outputs[0].value, DUMMY)
     return [*made, maker.block(block_id(made[-1]), [tx])]
 
 
@@ -61,11 +60,13 @@ class Doors(unittest.TestCase):
         cls.blocks = blocks()
 
     def judged(self, chain: Any) -> str:
+        submit = getattr(chain, "submit", None) or chain.try_submit
         for block in self.blocks[:-1]:
-            chain.submit(block, NOW)
+            submit(block, NOW)
         try:
-            told = chain.submit(self.blocks[-1], NOW)
-            return str(getattr(told, "answer", told))
+            told = submit(self.blocks[-1], NOW)
+            told = getattr(told, "reason", None) or getattr(told, "reply", told)
+            return str(told)
         except Rejected as error:
             return error.reason
 
@@ -81,7 +82,8 @@ class Doors(unittest.TestCase):
                 self.assertEqual(self.judged(bench), reply)
             with self.subTest(heights), NodeBench(heights) as node:
                 self.assertEqual(node.heights, SoftForks((1, 1, 1, 1), heights))
-                self.assertEqual(self.judged(node), reply)
+                with node.turn:
+                    self.assertEqual(self.judged(node), reply)
 
     def test_a_folder(self) -> None:
         """It keeps the height: another one is refused, and none asks for it."""
@@ -94,6 +96,24 @@ class Doors(unittest.TestCase):
                 self.assertEqual(node.info.heights.height("nulldummy"), 102)
             with self.assertRaises(Error):
                 Node(heights={"nulldummy": 103}, datadir=f"{folder}/d").close()
+
+    def test_what_waits(self) -> None:
+        """It waits until the rule comes into force, and not from then on."""
+        for height, waits in ((102, False), (103, True)):
+            with self.subTest(height), Bench({"nulldummy": height}) as bench:
+                for block in self.blocks[:-1]:
+                    bench.submit(block, NOW)
+                pool = Pool(bench)
+                tx = write_transaction(block_at_front(self.blocks[-1]).transaction(1))
+                if not waits:
+                    with self.assertRaisesRegex(NotAccepted, "Dummy CHECKMULTISIG argument must be zero"):
+                        pool.add(tx)
+                    continue
+                pool.add(tx)
+                self.assertEqual(len(pool), 1)
+                # A block without it, behind which the rule is in force.
+                bench.submit(Maker(CODE).chain(102)[-1], NOW)
+                self.assertEqual((bench.height(), len(pool)), (102, 0))
 
     def test_coins_and_places(self) -> None:
         """Over coins of one's own, and by a block's place, where the setting's four count no more."""

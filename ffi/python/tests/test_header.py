@@ -18,6 +18,8 @@ HEADER, SECP256K1 = f"{FFI}/include/wakotehu.h", f"{FFI}/include/wakotehu-secp25
 UNUSED = {
     "wakotehu_version", "wakotehu_wants", "wakotehu_utxo_wants", "wakotehu_secp256k1_verify",
     "wakotehu_secp256k1_verify_script",
+    # They have others beside them that take heights by name.
+    "wakotehu_open", "wakotehu_open_by_need", "wakotehu_connect", "wakotehu_block_place",
 }  # fmt: skip
 #: Python's types of the header's structs and callbacks.
 STRUCTS: Dict[str, Any] = {
@@ -90,7 +92,7 @@ def is_type(declared: Any, kind: str) -> bool:
     """Whether a type of ctypes is that of the header. Bytes and texts are given as `bytes` too."""
     if kind in ("uint8_t*", "char*"):
         return declared in (ctypes.c_char_p, ctypes.POINTER(ctypes.c_uint8))
-    if kind == "void*":
+    if kind in ("void*", "wakotehu_params*"):
         return declared is ctypes.c_void_p
     if kind == "wakotehu_coin_call":
         return declared is library.CoinCall
@@ -101,8 +103,11 @@ def is_type(declared: Any, kind: str) -> bool:
 
 
 def is_answer(declared: Any, kind: str) -> bool:
-    expected = {"wakotehu_code": ctypes.c_int, "const char*": ctypes.c_char_p, "int64_t": ctypes.c_int64}[kind]
-    return declared is expected
+    expected: Dict[str, Any] = {
+        "wakotehu_code": ctypes.c_int, "const char*": ctypes.c_char_p, "int64_t": ctypes.c_int64, "void": None,
+        "wakotehu_params*": ctypes.c_void_p,
+    }  # fmt: skip
+    return declared is expected[kind]
 
 
 def field_type(kind: str) -> Any:
@@ -160,7 +165,7 @@ class DeclarationsTest(unittest.TestCase):
         for name, (answer, kinds) in header.calls.items():
             for place, kind in enumerate(kinds if name not in UNUSED else []):
                 less, other = kinds[:place] + kinds[place + 1 :], kinds[:]
-                other[place] = "void*" if kind != "void*" else "uint32_t"
+                other[place] = "uint32_t" if kind in ("void*", "wakotehu_params*") else "void*"
                 for changed in (less, other):
                     self.assertIn(name, differences(header._replace(calls={name: (answer, changed)}), self.loaded))
         for name, fields in header.structs.items():

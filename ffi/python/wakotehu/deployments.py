@@ -32,12 +32,17 @@ class SoftForks(Tuple[int, int, int, int]):
         """As `regchain --heights` takes them: 1,1,1,1,nulldummy@0."""
         return ",".join([*map(str, self), *(f"{name}@{height}" for name, height in self.further.items())])
 
+    @property
+    def named(self) -> Dict[str, int]:
+        """All that are set, by their own names."""
+        return {**dict(zip(PLACES, self)), **self.further}
+
     def height(self, name: str) -> Union[int, float]:
         """From which height on a soft fork is in force, by its own name; infinity is never."""
-        return self[PLACES.index(name)] if name in PLACES else self.further.get(name, float("inf"))
+        return self.named.get(name, float("inf"))
 
     def __eq__(self, other: object) -> bool:
-        return tuple(self) == other and self.further == getattr(other, "further", {})
+        return tuple.__eq__(self, other) is True and self.further == getattr(other, "further", {})
 
     def __ne__(self, other: object) -> bool:
         return not self == other

@@ -11,11 +11,12 @@ from collections import deque
 from contextlib import contextmanager
 from fractions import Fraction
 from itertools import takewhile
-from typing import Deque, Dict, Iterable, Iterator, List, NamedTuple, Optional, Protocol, Sequence, Set, Tuple, Union
+from typing import Deque, Dict, FrozenSet, Iterable, Iterator, List, NamedTuple, Optional, Protocol, Sequence, Set, Tuple, Union
 
 from . import consensus
 from .chainstate import Coin, Reply
 from .coinset import CoinSet
+from .deployments import SoftForks
 from .encoding import Spelled, Transaction, block_at_front, read_transaction, write_transaction
 from .errors import DecodeFailed, NotAccepted
 from .index import Index, Kept
@@ -45,8 +46,8 @@ _WORDS = {
     "bad-blk-sigops": "bad-txns-too-many-sigops", "bad-txns-nonfinal": "non-BIP68-final", "bad-txns-BIP30": "txn-already-known",
     "blk-bad-inputs": "mandatory-script-verify-flag-failed",
 }  # fmt: skip
-#: The rules of scripts of the soft forks, in the order of a chainstate's heights.
-_RULES = ("", "CLTV", "DERSIG", "CSV")
+#: The rules of scripts that soft forks bring.
+_RULES = {"bip65": "CLTV", "bip66": "DERSIG", "csv": "CSV", "nulldummy": "NULLDUMMY"}
 #: What is said where no block has room, so that none is judged.
 _NO_ROOM = Reply("no room", "no room", "", 0, 0)
 
@@ -283,7 +284,7 @@ class Chain(Protocol):
     def index(self) -> Index: ...
 
     @property
-    def heights(self) -> Sequence[int]: ...
+    def heights(self) -> SoftForks: ...
 
     def judge_spelled(self, spelled: Spelled, now: int) -> Reply: ...
 
@@ -381,8 +382,9 @@ class Mempool(Waiting):
                 self._mined(own, tx)
         self.is_stale |= bool(gone) or self._forks != before
 
-    def _in_force(self) -> Tuple[bool, ...]:
-        return tuple(self.tip().height + 1 >= height for height in self.bench.heights)
+    def _in_force(self) -> FrozenSet[str]:
+        next_height = self.tip().height + 1
+        return frozenset(name for name, height in self.bench.heights.named.items() if next_height >= height)
 
     def _transactions(self, id: bytes) -> Dict[bytes, Tuple[Transaction, bytes]]:
         """The transactions of a block but its coinbase, with their bytes."""
@@ -613,7 +615,8 @@ class Mempool(Waiting):
         relative lock (BIP 68), and no soft fork is to come."""
         coins, locks = self._coins(entry.tx, among), [it.sequence >> 31 == 0 for it in entry.tx.inputs]
         is_there = len(coins) == len(entry.tx.inputs)
-        return all(self._forks) and not any(locks) and is_there and not any(coin.coinbase for coin in coins)
+        is_last = len(self._forks) == len(self.bench.heights.named)
+        return is_last and not any(locks) and is_there and not any(coin.coinbase for coin in coins)
 
     def _is_refused_on_stage(self, entries: Sequence[Entry]) -> Optional[Reply]:
         """The same for one that may come later, the last of these, behind blocks of the others."""
@@ -665,7 +668,7 @@ class Mempool(Waiting):
         coin = dict(enumerate(self._coins(entry.tx, among))).get(input)
         if coin is None:
             return ""
-        rules = ["P2SH", *(rule for rule, is_on in zip(_RULES, self._forks) if is_on and rule)]
+        rules = ["P2SH", *(rule for name, rule in _RULES.items() if name in self._forks)]
         known = {True: b"", False: b""}
         while True:
             found = consensus.verify_script(entry.data, input, coin.script, rules, known[True], known[False])

@@ -9,6 +9,7 @@ from .arguments import id_of, instance, number, octets, signed, text
 from .bench import Bench
 from .chainstate import Coin, Reply, moment_of
 from .consensus import Triple
+from .deployments import SoftForks
 from .encoding import Spelled, Transaction, coinbase, double_sha, mine_spelled, subsidy, write_transaction
 from .errors import NotAccepted, NotFound, TooMany
 from .index import Index
@@ -82,7 +83,7 @@ class _Turned:
 
     def __init__(self, bench: NodeBench) -> None:
         self._own = bench
-        self.heights: Sequence[int] = bench.heights
+        self.heights: SoftForks = bench.heights
 
     @property
     def index(self) -> Index:

@@ -7,6 +7,7 @@ from typing import Callable, Dict, List, Optional, Sequence, Tuple, TypeVar
 
 from .arguments import id_of, octets
 from .chainstate import Coin, Reply, Tip
+from .deployments import soft_forks
 from .encoding import EncodingError, Spelled, block_at_front, double_sha
 from .errors import Error
 from .index import Index, Unspent
@@ -49,7 +50,7 @@ class ReplicaBench(NodeBench):
         self.replica = Replica(
             url, seats, workers=workers, program=program, timeout=None, watch=self._took, durable=durable
         )
-        self.heights = self.replica.setting.heights
+        self.heights = soft_forks(self.replica.setting.heights)
         self.table = self.replica.setting.signatures
         self.known = KnownSignatures(secp256k1, b"") if self.replica.setting.by_need else None
         self._shadow = None

@@ -153,7 +153,7 @@ def getblockchaininfo(node: Node) -> Object:
 
 def _deployments(node: Node, height: int) -> Object:
     """The soft forks, and whether each is in force in a child of an active block of a height."""
-    forks = zip(("bip34", "bip65", "bip66", "csv"), node.bench.heights)
+    forks = node.bench.heights.named.items()
     return {name: {"type": "buried", "active": height + 1 >= first, "height": first} for name, first in forks}
 
 
