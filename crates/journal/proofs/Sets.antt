@@ -9,7 +9,8 @@ use Rattle.std.proofs.lemmas.Str.Pattern.{IsSplitOnceResult, split_parts}
 use Rattle.rules.specs.declared.deployment.Deployment.{Deployment}
 use Rattle.rules.specs.declared.params.Params.{Params}
 use Rattle.rules.specs.Params.{with_height}
-use Rattle.journal.specs.Heights.{IsNamed, AreSets}
+use Rattle.journal.specs.Heights.{IsNamed}
+use Rattle.journal.specs.inside.HeightSets.{AreSets}
 use Rattle.journal.proofs.Parts.{Lacks, Split, comma-free, found-parts}
 
 -- where it stands it isn't lacking

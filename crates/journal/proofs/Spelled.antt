@@ -6,7 +6,8 @@ use Rattle.std.specs.Prelude.{MatchOption, IfSome}
 use Rattle.std.proofs.lemmas.Str.Pattern.{IsSplitOnceResult, split_parts}
 use Rattle.rules.specs.declared.params.Params.{Params}
 use Rattle.rules.specs.Params.{of_heights}
-use Rattle.journal.specs.Heights.{IsNumber, Sets, AreSets, IsSpelling}
+use Rattle.journal.specs.Heights.{IsNumber, Sets, IsSpelling}
+use Rattle.journal.specs.inside.HeightSets.{AreSets}
 use Rattle.journal.proofs.Parts.{Lacks, Split, numeral-lacks, found-parts}
 use Rattle.journal.proofs.Sets.{stands}
 

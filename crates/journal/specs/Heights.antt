@@ -25,11 +25,6 @@ Sets [] before after = before ≡ after
 Sets (text ∷ texts) before after =
     (deployment : Deployment) × (height : ℕ) × IsNamed text deployment height × Sets texts (with_height before deployment height) after
 
--- such texts, one at least, parted by commas
-abbrev pub AreSets : List ℕ → Params → Params → Type 0
-AreSets text before after =
-    (first : List ℕ) × (others : List (List ℕ)) × (text ≡ join_with_byte 0x2c (first ∷ others)) × Sets (first ∷ others) before after
-
 -- parted by commas: four numbers, the heights of BIP 34, 65 and 66, and of BIPs 68, 112 and 113; and then further soft forks
 -- by name. One that isn't named is never in force.
 pub record IsSpelling (word : List ℕ) (heights : Params) : Type 0 where

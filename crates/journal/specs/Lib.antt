@@ -3,3 +3,4 @@ pub mod Found
 pub mod Heights
 pub mod Line
 pub mod SavedRun
+pub mod inside

@@ -1,7 +1,8 @@
 //! The heights of soft forks, as a word of the command line gives them.
 
 ghost use Rattle.std.specs.Prelude.{◌≡◌, ◌++◌, ◌∷◌, ℕ, List, IfSome, MatchOption, Some};
-ghost use Rattle.journal.specs.Heights.{IsNumber, IsNamed, AreSets, IsSpelling};
+ghost use Rattle.journal.specs.Heights.{IsNumber, IsNamed, IsSpelling};
+ghost use Rattle.journal.specs.inside.HeightSets.{AreSets};
 ghost use Rattle.rules.specs.declared.deployment.Deployment.{Deployment};
 ghost use Rattle.rules.specs.declared.params.Params.{Params};
 ghost use Rattle.rules.specs.Params.{with_height};

@@ -5,7 +5,8 @@ use Rattle.std.proofs.lemmas.Option.{same_Some, none-some}
 use Rattle.std.proofs.lemmas.Str.Pattern.{split_parts}
 use Rattle.rules.specs.declared.params.Params.{Params}
 use Rattle.rules.specs.Params.{of_heights}
-use Rattle.journal.specs.Heights.{Sets, AreSets, IsSpelling}
+use Rattle.journal.specs.Heights.{Sets, IsSpelling}
+use Rattle.journal.specs.inside.HeightSets.{AreSets}
 use Rattle.journal.proofs.Parts.{Lacks, Split}
 use Rattle.journal.proofs.Spelled.{front-of, spelled-alone, spelled-more, ends, goes-on, same-heights, if-some}
 use Rattle.journal.proofs.heights.read_heights.Goals as goal

@@ -3,7 +3,7 @@ use Rattle.std.specs.Prelude.{MatchOption}
 use Rattle.std.proofs.lemmas.Option.{same_Some, none-some}
 use Rattle.std.proofs.lemmas.Str.Pattern.{split_parts}
 use Rattle.rules.specs.declared.params.Params.{Params}
-use Rattle.journal.specs.Heights.{AreSets}
+use Rattle.journal.specs.inside.HeightSets.{AreSets}
 use Rattle.journal.proofs.Parts.{Lacks, Split}
 use Rattle.journal.proofs.Sets.{more, first, alone}
 use Rattle.journal.proofs.heights.set_each.Goals as goal

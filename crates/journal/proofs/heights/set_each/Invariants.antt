@@ -1,7 +1,7 @@
 use denote.Shadow.{shadow}
 use denote.Text.{Utf8}
 use Rattle.std.proofs.Common.{length}
-use Rattle.journal.specs.Heights.{AreSets}
+use Rattle.journal.specs.inside.HeightSets.{AreSets}
 use Rattle.rules.specs.declared.params.Params.{Params}
 use Rattle.journal.proofs.heights.set_each.Given as goal
 
