@@ -75,6 +75,8 @@ NUMBER = [None, *NOTHING, True, False, -1, 1 << 64, 10**5000, *FRACTIONS, *TEXTS
 SEQUENCE = [None, *NOTHING, *NUMBERS, *FRACTIONS, *TEXTS, {}, {1: 2}, set(), {1}, frozenset(), *OCTETS, *BUFFERS[3:]]
 
 #: The wrong values of each kind of argument.
+#: What gives no heights; none by name are those of regtest.
+UNNAMED = [*(it for it in SEQUENCE if it != {}), {"csv": -1}, {"csv": 1 << 32}, {"csv": 0.5}, {1: 1}, {"": 1}, {"Csv": 1}]
 WRONG: Dict[str, List[Any]] = {
     "bytes": BYTES,
     "id": [*BYTES, *LENGTHS],
@@ -112,9 +114,9 @@ WRONG: Dict[str, List[Any]] = {
         {1: 2}, ["WITNESS"], [1], [None], {b"P2SH"},
     ],
     "stack": [*SEQUENCE, [1], [None], ["aa"], [b"aa", 1], [array.array("I", [1])]],
-    "heights": [*SEQUENCE, [], [1], [1] * 3, [1] * 5, [1, 1, 1, -1], [1, 1, 1, 1 << 32], [1, 1, 1, 0.5], [1, 1, 1, "1"]],
+    "heights": [*UNNAMED, [], [1], [1] * 3, [1] * 5, [1, 1, 1, -1], [1, 1, 1, 1 << 32], [1, 1, 1, 0.5], [1, 1, 1, "1"]],
     "optional heights": [
-        *SEQUENCE[1:], [], [1], [1] * 3, [1] * 5, [1, 1, 1, -1], [1, 1, 1, 1 << 32], [1, 1, 1, 0.5], [True] * 4,
+        *UNNAMED[1:], [], [1], [1] * 3, [1] * 5, [1, 1, 1, -1], [1, 1, 1, 1 << 32], [1, 1, 1, 0.5], [True] * 4,
     ],
     "times": [*SEQUENCE, [-1], [1 << 32], [0.5], ["1"], [None], [True], [b"1"]],
     "coin": [
@@ -380,8 +382,10 @@ OTHER = {
 }  # fmt: skip
 #: What other modules of the package call with what was taken before.
 INSIDE = {
-    "addresses.base58", "addresses.data_of", "chainstate.reply_of", "psbt.place_of", "psbt.prefixed", "psbt.secp", "psbt.written", "psbtsigning.filled",
+    "addresses.base58", "addresses.data_of", "chainstate.reply_of", "library.params_of", "psbt.place_of", "psbt.prefixed", "psbt.secp", "psbt.written", "psbtsigning.filled",
     "psbtsigning.holds", "psbtsigning.push_shortest", "psbtsigning.satisfy",
+} | {
+    f"deployments.{name}" for name in ("SoftForks", "SoftForks.height", "read_members", "read_word", "soft_forks")
 } | {
     f"signatures.{name}" for name in (
         "KnownSignatures", "KnownSignatures.learn", "KnownSignatures.verdicts", "signatures_of",
