@@ -10,7 +10,7 @@ import heapq
 from collections import deque
 from contextlib import contextmanager
 from fractions import Fraction
-from itertools import takewhile
+from itertools import starmap, takewhile
 from typing import Deque, Dict, FrozenSet, Iterable, Iterator, List, NamedTuple, Optional, Protocol, Sequence, Set, Tuple, Union
 
 from . import consensus
@@ -566,7 +566,9 @@ class Mempool(Waiting):
             raise NotAccepted("txn-already-known" if is_known else "bad-txns-inputs-missingorspent")
         with self.others():
             fee = sum(coin.value for coin in coins) - sum(out.value for out in tx.outputs)
-            inner = sum(consensus.p2sh_sigops(it.script, coin.script) for it, coin in zip(tx.inputs, coins))
+            # A script's hash is paid to by one that begins with HASH160.
+            pairs = [(it.script, coin.script) for it, coin in zip(tx.inputs, coins) if coin.script[:1] == b"\xa9"]
+            inner = sum(starmap(consensus.p2sh_sigops, pairs))
         found = Entry(own.id, tx, data, fee, own.sigops + inner, self.now(), tip.height, False)
         # What makes money is refused by a rule.
         if self.policy and fee >= 0:
