@@ -242,7 +242,7 @@ static void misused(void) {
            == WAKOTEHU_NULL);
     for (uint32_t bit = 1; bit; bit <<= 1) {
         struct all all;
-        int known = (bit & (1 | 4 | 512 | 1024)) != 0;
+        int known = (bit & (1 | 4 | 16 | 512 | 1024)) != 0;
         wakotehu_utxo set = 0;
         EXPECT(wakotehu_utxo_open(&set) == WAKOTEHU_OK);
         wakotehu_code codes[] = {

@@ -425,7 +425,7 @@ static void unknown_flags(void) {
     wakotehu_evaluated told = {7, 7, 7};
     for (int bit = 0; bit < 32; bit++) {
         uint32_t rules = (uint32_t)1 << bit;
-        int known = rules == WAKOTEHU_VERIFY_P2SH || rules == WAKOTEHU_VERIFY_DERSIG
+        int known = rules == WAKOTEHU_VERIFY_P2SH || rules == WAKOTEHU_VERIFY_DERSIG || rules == WAKOTEHU_VERIFY_NULLDUMMY
                     || rules == WAKOTEHU_VERIFY_CHECKLOCKTIMEVERIFY || rules == WAKOTEHU_VERIFY_CHECKSEQUENCEVERIFY;
         wakotehu_code right = known ? WAKOTEHU_OK : WAKOTEHU_FLAGS;
         found = 7;
