@@ -139,8 +139,7 @@ FLAGS = {"CLTV": "bip65", "DERSIG": "bip66", "CSV": "csv", "NULLDUMMY": "nulldum
 
 def flags_at(height: int, heights: SoftForks) -> Set[str]:
     """The rules for scripts that are in force in a block of this height."""
-    first = {"P2SH": 0, **{flag: heights.height(name) for flag, name in FLAGS.items()}}
-    return {name for name, begins in first.items() if height >= begins}
+    return {"P2SH", *(flag for flag, name in FLAGS.items() if height >= heights.height(name))}
 
 
 class Connecting:

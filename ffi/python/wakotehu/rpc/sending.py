@@ -1,6 +1,5 @@
 """Calls that send transactions to the mempool, or ask whether it would take them."""
 
-from itertools import zip_longest
 from typing import Any, Dict, List, Sequence, Union
 
 from .. import consensus
@@ -66,7 +65,8 @@ def testmempoolaccept(node: Node, rawtxs: Any, maxfeerate: Any) -> List[Object]:
     with node.mempool.used():
         judged = _judged(node, raws)
     found, is_over = [], False
-    for raw, entry in zip_longest(raws, judged):
+    for place, raw in enumerate(raws):
+        entry = judged[place] if place < len(judged) else None
         answer = {} if entry is None or is_over else _tested(entry, _most_fee(maxfeerate, len(raw.data)))
         # Behind one that isn't accepted none is looked at.
         is_over = is_over or not answer.get("allowed")
