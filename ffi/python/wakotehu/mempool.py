@@ -484,7 +484,7 @@ class Mempool(Waiting):
             self.look_again()
 
     def judge_all(self, rows: Sequence[Tuple[bytes, Transaction]]) -> List[Union[Entry, NotAccepted]]:
-        """The same of transactions that are sent one after the other, up to the first that may not wait. They replace nothing."""
+        """What `judge` says of transactions that are sent one after the other, up to the first that may not wait. They replace nothing."""
         while True:
             moves, found = self._moves, self._judged_all(rows, self.copy())
             if self._moves == moves:

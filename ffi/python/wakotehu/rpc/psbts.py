@@ -272,7 +272,7 @@ def utxoupdatepsbt(node: Node, psbt: Any, descriptors: Any) -> str:
 
 
 def _coins(node: Node, places: List[Tuple[bytes, int]]) -> List[Optional[Coin]]:
-    """The coins at places: those that would be made by what waits to be mined, and those of the active branch."""
+    """The coins at outpoints, which transactions that wait would make or which the active branch has."""
     with node.mempool.read():
         waiting = [node.mempool.coin(*place) for place in places]
     return [own or coin for own, coin in zip(waiting, node.bench.coins_at(places))]

@@ -67,7 +67,7 @@ class Ledger:
         self.is_mine = is_mine
         self.best, self.height = best, height
         self.records: Dict[bytes, Record] = {}
-        #: Outputs of the wallet, spent or not; and those of them that no mined transaction spends.
+        #: Outputs of the wallet, spent or not; and the ones that no mined transaction spends.
         self.coins: Dict[Outpoint, Output] = {}
         self.unspent: Dict[Outpoint, None] = {}
         #: The wallet's transactions that spend an outpoint, whoever has it.

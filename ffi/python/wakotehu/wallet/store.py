@@ -110,7 +110,7 @@ def is_whole(path: str) -> bool:
 
 
 def _make(path: str) -> None:
-    """Makes a file where there is none, which its owner alone reads: it has the keys."""
+    """Makes a missing file, which its owner alone reads: it has the keys."""
     os.close(os.open(path, os.O_RDWR | os.O_CREAT | os.O_NOFOLLOW, 0o600))
 
 
